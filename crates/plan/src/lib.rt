@@ -1,0 +1,3 @@
+// Limits, plans and the check of a plan over any model.
+pub mod limits;
+pub mod plan;
