@@ -36,6 +36,10 @@ pub whole-is : (f : ℕ → ℕ) (xs : List ℕ) → length xs ≡ 64 → ((k : 
 unfolding whole
 whole-is f xs n h = fill-by-all f xs 64 0 n h
 
+-- a list of sixty-four numbers is the state with its own numbers
+pub whole-own : (xs : List ℕ) → length xs ≡ 64 → xs ≡ whole (λ k. getD xs k 0)
+whole-own xs n = whole-is (λ k. getD xs k 0) xs n (λ k h. refl)
+
 pub length-capped : (b x : List ℕ) → length (capped b x) ≡ 64
 unfolding capped
 length-capped b x = length-whole _
@@ -108,6 +112,9 @@ filled-all f n xs t z =
 pub told-at : (xs : List ℕ) (p : ℕ) → 0 < p → told xs p ≡ getD xs (p - 1) 0
 told-at xs zero h = absurd (omega arith)
 told-at xs (suc k) h = let e : k ≡ suc k - 1 = omega arith in ap (λ j. getD xs j 0) e
+
+pub told-next : (xs : List ℕ) (k : ℕ) → told xs (k + 1) ≡ getD xs k 0
+told-next xs k = rw add-one refl
 
 pub told-outside : (xs : List ℕ) (p : ℕ) → (0 < p → length xs < p) → told xs p ≡ 0
 told-outside xs zero h = refl

@@ -1,0 +1,5 @@
+pub mod Limits
+pub mod Faults
+pub mod Check
+pub mod Runs
+pub mod Accepts

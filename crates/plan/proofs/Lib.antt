@@ -1,0 +1,3 @@
+pub mod Keeping
+pub mod Accepts
+pub mod Runs

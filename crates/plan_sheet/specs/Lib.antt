@@ -1,0 +1,5 @@
+pub mod Faults
+pub mod Plans
+pub mod Says
+pub mod Views
+pub mod Accepts

@@ -1,0 +1,5 @@
+pub mod Faults
+pub mod Words
+pub mod Tables
+pub mod Numbers
+pub mod Spelling
