@@ -77,18 +77,30 @@ abbrev pub eased-to : Roads → List ℕ → List ℕ → ℕ → List ℕ
 eased-to n q w i = whole (λ k. folded (tightened n q k) (getD w k 0) (take i (n .turns)))
 
 -- one turn lowers the release of the link that it leaves, and of no other
-pub eased-more : (n : Roads) → Sound n → (q w : List ℕ) (i : ℕ) (t : Turn) → i < length (n .turns) → t ≡ getD (n .turns) i no-turn → set (eased-to n q w i) (t .from - 1) (min (getD (eased-to n q w i) (t .from - 1) 0) (passage n q t)) ≡ eased-to n q w (i + 1)
-eased-more n ok q w i t h refl =
-    set-whole f _ (t .from - 1) _ near
-    (ap (λ m. min m (passage n q t)) (getD-whole f (t .from - 1) near) ∙ (sym (tightened-here n q (t .from - 1) _ t (omega arith)) ∙ sym (more (t .from - 1))))
-    (λ k e. sym (tightened-other n q k (f k) t (λ s. e (omega arith))) ∙ sym (more k))
-  where
-    f : ℕ → ℕ
-    f k = folded (tightened n q k) (getD w k 0) (take i (n .turns))
-    near : t .from - 1 < 64
-    near = omega (arith, ok .turned i h .0 .0, ok .turned i h .0 .1, ok .few)
-    more : (k : ℕ) → folded (tightened n q k) (getD w k 0) (take (i + 1) (n .turns)) ≡ tightened n q k (f k) t
-    more k = folded-more (tightened n q k) (getD w k 0) (n .turns) i no-turn h
+module _ (n : Roads) (ok : Sound n) (q w : List ℕ) (i : ℕ) (h : i < length (n .turns)) where
+  turn : Turn
+  turn = getD (n .turns) i no-turn
+
+  before : ℕ → ℕ
+  before k = folded (tightened n q k) (getD w k 0) (take i (n .turns))
+
+  from : ℕ
+  from = turn .from - 1
+
+  near : (from < 64) × (turn .from ≡ from + 1)
+  unfolding turn from
+  near = (omega (arith, ok .turned i h .0 .0, ok .turned i h .0 .1, ok .few), omega (arith, ok .turned i h .0 .0))
+
+  more : (k : ℕ) → folded (tightened n q k) (getD w k 0) (take (i + 1) (n .turns)) ≡ tightened n q k (before k) turn
+  unfolding turn before
+  more k = folded-more (tightened n q k) (getD w k 0) (n .turns) i no-turn h
+
+  pub eased-more : set (eased-to n q w i) (getD (n .turns) i no-turn .from - 1) (min (getD (eased-to n q w i) (getD (n .turns) i no-turn .from - 1) 0) (passage n q (getD (n .turns) i no-turn))) ≡ eased-to n q w (i + 1)
+  unfolding turn before from
+  eased-more =
+      set-whole before _ from _ (near .0)
+      (ap (λ m. min m (passage n q turn)) (getD-whole before from (near .0)) ∙ (sym (tightened-here n q from (before from) turn (near .1)) ∙ sym (more from)))
+      (λ k e. sym (tightened-other n q k (before k) turn (λ s. e (omega (arith, near .1)))) ∙ sym (more k))
 
 -- from the wishes come the releases
 pub eased-wishes : (n : Roads) (r q : List ℕ) → eased n q (wishes n r q) ≡ releases n r q

@@ -5,4 +5,5 @@ pub mod Sizes
 pub mod Order
 pub mod Laws
 pub mod Ranges
+pub mod Stepping
 pub mod Sharing

@@ -19,7 +19,7 @@ use Rattle.words.specs.Words.{short-sheet}
 use Rattle.words.specs.Numbers.{number-at, section-at}
 use Rattle.words.specs.Spelling.{Next, Spelled}
 use Rattle.words.specs.Tables.{written, tabled, UpTo}
-use Rattle.words.proofs.Due.{short-stands, short-read, due, section-stands, section-read, number-stands, number-read}
+use Rattle.words.proofs.Due.{short-stands, short-read, section-stands, section-read, number-stands, number-read}
 use Rattle.words.proofs.Filling.{Fills, fill-stands, fill-read, spelled-join, spelled-split}
 use Rattle.plan_sheet.specs.declared.read.Start.{Start}
 use Rattle.plan_sheet.specs.declared.read.Row.{Row}
@@ -107,12 +107,12 @@ module _ (m : Meaning) (bs : List ℕ) where
       let q = then-parts (number-at bs (p .0) (m .places) (m .places)) (λ n. start-at m bs (n .end)) s (p .2) in
       let c = number-stands bs (p .0) (m .places) (m .places) (q .0) (q .1) in
       let d = fill-stands start-fills (m .places) 0 (record { queues = replicate 64 0; end = q .0 .end }) s (q .2) in
-      let due : q .0 .value ≡ length (d .values) = omega (arith, c .above, c .below, d .long) in
+      let counted : q .0 .value ≡ length (d .values) = omega (arith, c .above, c .below, d .long) in
       record {
         queues = d .values;
         long = d .long;
         tops = d .within;
-        spelled = (p .0, section-stands bs at (codes "start") (p .0) (p .1), (q .0 .end, subst (λ v. Next bs (p .0) (decimal v) (q .0 .end)) due (c .next), d .spelled));
+        spelled = (p .0, section-stands bs at (codes "start") (p .0) (p .1), (q .0 .end, subst (λ v. Next bs (p .0) (decimal v) (q .0 .end)) counted (c .next), d .spelled));
         table = d .table;
       }
 

@@ -18,6 +18,5 @@ pub fn check_sheet<M: Model>(model: &M, limits: &[Limit], bytes: &[u8]) -> Resul
     ensures accepts { λ r. ⌜ Accepts (M·Model .meaning (now (model .entry))) (now (limits .entry)) (now (bytes .entry)) (isOk r) ⌝ }
 {
     let read = read_plan(model, bytes)?;
-    let rows = check(model, limits, &read.plan)?;
-    Ok(rows)
+    Ok(check(model, limits, &read.plan)?)
 }

@@ -3,8 +3,12 @@ ghost use mathlib.Core.Path.{_≡_};
 ghost use Rattle.plan_sheet.specs.Faults.{plan-refusal};
 ghost use Rattle.plan_sheet.specs.declared.fault.PlanFault.the-variants.{Sheet, Check};
 use plan::fault::CheckFault;
+use plan::fault::CheckFaultDebug;
+use plan::fault::CheckFaultPartialEq;
 use refusal::Refusal;
 use words::fault::SheetFault;
+use words::fault::SheetFaultDebug;
+use words::fault::SheetFaultPartialEq;
 
 #[derive(Clone, Copy, PartialEq, Eq, Debug)]
 pub enum PlanFault {

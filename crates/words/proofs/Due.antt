@@ -30,7 +30,7 @@ use Rattle.words.proofs.Spelled.{next-read, word-stands}
 pub short-stands : (bs : List ℕ) {u : Unit {0}} → short-sheet bs ≡ Ok u → length bs ≤ 65535
 short-stands bs h =
     ⊎-elim
-    (λ long. absurd (let z : _≡_ {A = ℕ} 0 1 = cc (h, cond-true (ltb 65535 (length bs)) (no 1 0) (Ok tt) long) in omega arith))
+    (λ long. absurd (let z : _≡_ {A = ℕ} 0 1 = cc (h, cond-true (ltb 65535 (length bs)) (no 1 0) (Ok (tt {0})) long) in omega arith))
     (λ short. ltb-false 65535 (length bs) short)
     (cases-bool (ltb 65535 (length bs)))
 

@@ -1,0 +1,29 @@
+use native.Mathlib.Omega.{arith}
+use Rattle.network.specs.Code.{roads}
+use Rattle.network.specs.Network.{amount}
+use Rattle.network.proofs.Ranges.{sound, out-small, queue-small, arrival-small}
+use Rattle.network.proofs.network.Network.amount_of.Needs as need
+
+pub sub-result : need.sub-result
+sub-result c = c .pre .ready .leaving (c .args .k)
+
+pub inflow-of-requires : need.inflow-of-requires
+inflow-of-requires c κs =
+    record { inside = c .pre .inside; small = out-small (roads (c .args .self .now)) (sound (c .args .self .now)) _ _ _ (c .pre .ready) }
+
+pub add-result : need.add-result
+add-result c =
+    omega (arith, c .inflow-of .ensures .small, queue-small (roads (c .args .self .now)) (sound (c .args .self .now)) _ _ _ (c .pre .ready) (c .args .k))
+
+pub add-result-2 : need.add-result-2
+add-result-2 c =
+    omega (
+      arith,
+      c .inflow-of .ensures .small,
+      queue-small (roads (c .args .self .now)) (sound (c .args .self .now)) _ _ _ (c .pre .ready) (c .args .k),
+      arrival-small (roads (c .args .self .now)) (sound (c .args .self .now)) _ _ _ (c .pre .ready) (c .args .k),
+    )
+
+pub returns : need.returns
+unfolding amount
+returns c = cc

@@ -1,0 +1,8 @@
+use mathlib.Core.Path.{sym}
+use Rattle.model.proofs.Core.{dark-is}
+use Rattle.network.specs.Code.{roads}
+use Rattle.network.specs.Network.{network}
+use Rattle.network.proofs.network.model.NetworkModel.dark.Needs as need
+
+pub returns : need.returns
+returns c = sym (dark-is (network (roads (c .args .self .now))))
