@@ -135,11 +135,11 @@ module _ (x y : List ℕ) (n k : ℕ) (h : k < n) where
   opened : above-from (n - k) k x y ≡ above-from (suc (n - (k + 1))) k x y
   opened = let e : n - k ≡ suc (n - (k + 1)) = omega arith in ap (λ m. above-from m k x y) e
 
-  pub above-here : getD y k 0 < getD x k 0 → above-from (n - k) k x y ≡ Some (k + 1)
-  above-here g = opened ∙ cond-true _ _ _ (lt-ltb (getD y k 0) (getD x k 0) g)
+  pub above-here : ltb (getD y k 0) (getD x k 0) ≡ true → above-from (n - k) k x y ≡ Some (k + 1)
+  above-here g = opened ∙ cond-true _ _ _ g
 
-  pub above-more : getD x k 0 ≤ getD y k 0 → above-from (n - k) k x y ≡ above-from (n - (k + 1)) (k + 1) x y
-  above-more g = opened ∙ cond-false _ _ _ (le-ltb (getD y k 0) (getD x k 0) g)
+  pub above-more : ltb (getD y k 0) (getD x k 0) ≡ false → above-from (n - k) k x y ≡ above-from (n - (k + 1)) (k + 1) x y
+  above-more g = opened ∙ cond-false _ _ _ g
 
 pub above-done : (x y : List ℕ) (n k : ℕ) → n ≤ k → above-from (n - k) k x y ≡ None
 above-done x y n k h = let e : n - k ≡ 0 = omega arith in ap (λ m. above-from m k x y) e

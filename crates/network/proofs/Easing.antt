@@ -1,12 +1,11 @@
 -- The release of a link is the greatest number that its wish and its turns allow.
-use mathlib.Core.Path.{_≡_, refl, sym, ap, _∙_}
-use mathlib.Core.Bool.{Bool, true, false, cond}
+use mathlib.Core.Path.{_≡_, sym, ap, _∙_}
 use mathlib.Core.List.{List, [], _∷_}
 use Prim.Native.Nat.{ℕ, _+_, _-_, _*_, _/_, _≤_, _<_, min}
 use native.Mathlib.Nat.{le-refl, le-trans, mul-comm, le-div-iff-mul-le}
 use native.Mathlib.Omega.{arith}
 use lib.Dec.{eqb}
-use lib.ListN.{length, getD, take, set}
+use lib.ListN.{length, getD, take}
 use Rattle.std.specs.Iters.{folded}
 use Rattle.std.specs.shelf.Lists.{All}
 use Rattle.std.proofs.shelf.Elements.{all-from-getD}
@@ -15,8 +14,9 @@ use Rattle.std.proofs.shelf.Tests.{cond-both, cond-true, cond-false, eqb-true, 
 use Rattle.model.specs.State.{whole}
 use Rattle.model.proofs.State.{getD-whole}
 use Rattle.network.specs.declared.links.Turn.{Turn}
-use Rattle.network.specs.Sound.{no-turn, Turn-ok}
-use Rattle.network.specs.Network.{Roads, Sound, room, passage, tightened, wish, wishes, release, releases, eased, Fits, Greatest}
+use Rattle.network.specs.Sound.{no-turn}
+use Rattle.network.specs.Network.{Roads, Sound, room, passage, tightened, wish, wishes, release, releases, Fits, Greatest}
+use Rattle.network.specs.Parts.{eased-by, eased}
 use Rattle.network.proofs.Whole.{whole-same, set-whole}
 
 -- an amount that fits under a quotient, and the other way round
@@ -95,7 +95,7 @@ module _ (n : Roads) (ok : Sound n) (q w : List ℕ) (i : ℕ) (h : i < length (
   unfolding turn before
   more k = folded-more (tightened n q k) (getD w k 0) (n .turns) i no-turn h
 
-  pub eased-more : set (eased-to n q w i) (getD (n .turns) i no-turn .from - 1) (min (getD (eased-to n q w i) (getD (n .turns) i no-turn .from - 1) 0) (passage n q (getD (n .turns) i no-turn))) ≡ eased-to n q w (i + 1)
+  pub eased-more : eased-by n q (getD (n .turns) i no-turn) (eased-to n q w i) ≡ eased-to n q w (i + 1)
   unfolding turn before from
   eased-more =
       set-whole before _ from _ (near .0)

@@ -1,7 +1,7 @@
 -- A network obeys the laws of a model.
 use mathlib.Core.Path.{_≡_, refl}
 use mathlib.Core.List.{List}
-use Prim.Native.Nat.{ℕ, _+_, _≤_, _<_}
+use Prim.Native.Nat.{ℕ, _+_, _≤_}
 use native.Mathlib.Omega.{arith}
 use lib.Dec.{ltb}
 use lib.ListN.{length, getD}
@@ -13,15 +13,14 @@ use Rattle.model.specs.Model.{Lawful, CoreLaws, Placed}
 use Rattle.model.proofs.State.{length-capped, capped-below}
 use Rattle.model.proofs.Core.{lawful as core-lawful}
 use Rattle.model.proofs.Answers.{lowest-held, held-cond}
-use Rattle.network.specs.Network.{Roads, Sound, tops, wishes, releases, amounts, verdict, verdict-at, moved, judged, core, network}
+use Rattle.network.specs.Network.{Roads, Sound, tops, wishes, releases, amounts, verdict-at, moved, judged, core, network}
 use Rattle.network.proofs.Sizes.{length-tops, length-loads, getD-tops, top-past, top-high, load-top}
 use Rattle.network.proofs.Order.{order-clear, order-next}
 
-verdict-held : (k w o a t p : ℕ) (c : Cause) → verdict k w o a t ≡ Held p c → p ≡ k + 1
-unfolding verdict
-verdict-held k w o a t p c e =
-    held-cond (ltb o w) p (k + 1) c Blocked _
-    (held-cond (ltb t a) p (k + 1) c Overflow Clear (λ z. absurd (let s : _≡_ {A = ℕ} 0 1 = cc in omega arith))) e
+verdict-held : (w o a t : List ℕ) (k p : ℕ) (c : Cause) → verdict-at w o a t k ≡ Held p c → p ≡ k + 1
+verdict-held w o a t k p c e =
+    held-cond (ltb (getD o k 0) (getD w k 0)) p (k + 1) c Blocked _
+    (held-cond (ltb (getD t k 0) (getD a k 0)) p (k + 1) c Overflow Clear (λ z. absurd (let s : _≡_ {A = ℕ} 0 1 = cc in omega arith))) e
 
 module _ (n : Roads) (ok : Sound n) where
   told-place : (r q v : List ℕ) → Placed (core n) (judged n r q v)
@@ -32,7 +31,7 @@ module _ (n : Roads) (ok : Sound n) where
       go Clear e = tt
       go (Held p c) e =
           let t = lowest-held (length (n .links)) (verdict-at (wishes n r q) (releases n r q) (amounts n (releases n r q) q v) (tops n)) p c e in
-          let s = verdict-held (t .0) _ _ _ _ p c (t .2) in
+          let s = verdict-held (wishes n r q) (releases n r q) (amounts n (releases n r q) q v) (tops n) (t .0) p c (t .2) in
           (omega arith, omega (arith, t .1))
 
   whole-moved : (r q v : List ℕ) → length (moved n r q v) ≡ 64

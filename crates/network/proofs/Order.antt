@@ -1,49 +1,39 @@
 -- A row is clear exactly where traffic flows, and where it flows for more it flows for less.
-use mathlib.Core.Path.{_≡_, refl, sym, ap, _∙_}
+use mathlib.Core.Path.{_≡_, sym, _∙_}
 use mathlib.Core.Bool.{Bool, true, false, cond}
 use mathlib.Core.List.{List, [], _∷_}
 use mathlib.Core.Logic.{⊎-elim}
-use Prim.Native.Nat.{ℕ, _+_, _-_, _*_, _/_, _≤_, _<_, min}
+use Prim.Native.Nat.{ℕ, _+_, _-_, _≤_, _<_, min}
 use native.Mathlib.Nat.{le-refl, le-trans, le-antisymm, mul-le-mul-left}
 use native.Mathlib.Omega.{arith}
 use lib.Dec.{eqb, ltb}
 use lib.ListN.{length, getD}
-use Rattle.std.specs.shelf.Lists.{All, sumBy}
+use Rattle.std.specs.shelf.Lists.{sumBy}
 use Rattle.std.proofs.shelf.Elements.{all-weaker}
 use Rattle.std.proofs.shelf.Sums.{sumBy-cons}
-use Rattle.std.proofs.shelf.Tests.{cond-true, cond-false, ltb-false, le-ltb, lt-ltb, cases-lt}
+use Rattle.std.proofs.shelf.Tests.{cond-false, ltb-false, le-ltb, cases-lt}
 use Rattle.model.specs.declared.Answer.{Answer}
-use Rattle.model.specs.declared.Answer.the-variants.{Clear, Held}
+use Rattle.model.specs.declared.Answer.the-variants.{Clear}
 use Rattle.model.specs.declared.Cause.the-variants.{Blocked, Overflow}
 use Rattle.model.specs.State.{Below}
 use Rattle.model.proofs.State.{getD-whole, capped-mono}
 use Rattle.model.proofs.Answers.{lowest-clear, lowest-all, clear-cond}
 use Rattle.network.specs.declared.links.Turn.{Turn}
-use Rattle.network.specs.Network.{Roads, Sound, link, tops, green, wish, wishes, room, Fits, release, releases, turned, turned-into, inflow, amount, amounts, verdict, verdict-at, moved, judged, Greatest, Flows}
+use Rattle.network.specs.Network.{Roads, Sound, link, tops, green, wish, wishes, room, Fits, release, releases, turned, turned-into, inflow, amount, amounts, verdict-at, moved, judged, Greatest, Flows, Clear-where-flows, network}
 use Rattle.network.proofs.Easing.{release-greatest}
 use Rattle.network.proofs.Whole.{whole-mono}
 use Rattle.network.proofs.Sizes.{length-tops, getD-tops, wish-past, getD-releases, release-past}
 
 -- the verdict on a link
-module _ (k w o a t : ℕ) where
-  verdict-clear : verdict k w o a t ≡ Clear → (w ≤ o) × (a ≤ t)
-  unfolding verdict
+module _ (w o a t : List ℕ) (k : ℕ) where
+  verdict-clear : verdict-at w o a t k ≡ Clear → (getD w k 0 ≤ getD o k 0) × (getD a k 0 ≤ getD t k 0)
   verdict-clear e =
-      let f = clear-cond (ltb o w) (k + 1) Blocked _ e in
-      let g = clear-cond (ltb t a) (k + 1) Overflow Clear (f .1) in
-      (ltb-false o w (f .0), ltb-false t a (g .0))
+      let f = clear-cond (ltb (getD o k 0) (getD w k 0)) (k + 1) Blocked _ e in
+      let g = clear-cond (ltb (getD t k 0) (getD a k 0)) (k + 1) Overflow Clear (f .1) in
+      (ltb-false _ _ (f .0), ltb-false _ _ (g .0))
 
-  pub blocked-verdict : o < w → verdict k w o a t ≡ Held (k + 1) Blocked
-  unfolding verdict
-  blocked-verdict h = cond-true _ _ _ (lt-ltb o w h)
-
-  pub overflow-verdict : w ≤ o → t < a → verdict k w o a t ≡ Held (k + 1) Overflow
-  unfolding verdict
-  overflow-verdict h g = cond-false _ _ _ (le-ltb o w h) ∙ cond-true _ _ _ (lt-ltb t a g)
-
-  pub clear-verdict : w ≤ o → a ≤ t → verdict k w o a t ≡ Clear
-  unfolding verdict
-  clear-verdict h g = cond-false _ _ _ (le-ltb o w h) ∙ cond-false _ _ _ (le-ltb t a g)
+  clear-verdict : getD w k 0 ≤ getD o k 0 → getD a k 0 ≤ getD t k 0 → verdict-at w o a t k ≡ Clear
+  clear-verdict h g = cond-false _ _ _ (le-ltb _ _ h) ∙ cond-false _ _ _ (le-ltb _ _ g)
 
 module _ (n : Roads) (ok : Sound n) (r q v : List ℕ) where
   getD-wishes : (k : ℕ) → k < length (n .links) → getD (wishes n r q) k 0 ≡ wish n r q k
@@ -63,16 +53,21 @@ module _ (n : Roads) (ok : Sound n) (r q v : List ℕ) where
       }
     where
       at : (k : ℕ) → k < length (n .links) → (getD (wishes n r q) k 0 ≤ getD (releases n r q) k 0) × (getD (amounts n (releases n r q) q v) k 0 ≤ getD (tops n) k 0)
-      at k h = verdict-clear k _ _ _ _ (lowest-clear (length (n .links)) (verdict-at (wishes n r q) (releases n r q) (amounts n (releases n r q) q v) (tops n)) e k h)
+      at k h = verdict-clear (wishes n r q) (releases n r q) (amounts n (releases n r q) q v) (tops n) k (lowest-clear (length (n .links)) (verdict-at (wishes n r q) (releases n r q) (amounts n (releases n r q) q v) (tops n)) e k h)
 
   pub flows-clear : Flows n r q v → judged n r q v ≡ Clear
   unfolding judged
   flows-clear f =
       lowest-all (length (n .links)) (verdict-at (wishes n r q) (releases n r q) (amounts n (releases n r q) q v) (tops n))
       (λ k h.
-      clear-verdict k _ _ _ _
+      clear-verdict (wishes n r q) (releases n r q) (amounts n (releases n r q) q v) (tops n) k
       (omega (arith, f .full k h, getD-wishes k h, getD-releases n ok r q k))
       (omega (arith, f .fit k h, getD-amounts (releases n r q) k h, getD-tops n ok k)))
+
+-- what is told is clear exactly where traffic flows
+pub flows-exactly : (n : Roads) → Sound n → (r x v : List ℕ) (a : Answer) → a ≡ network n .answer r x v → Clear-where-flows n r x v a
+flows-exactly n ok r x v a e =
+    record { flows = λ c. clear-flows n ok _ _ _ (sym e ∙ c); clear = λ f. e ∙ flows-clear n ok _ _ _ f }
 
 sumBy-mono : (f g : Turn → ℕ) → ((t : Turn) → f t ≤ g t) → (ts : List Turn) → sumBy f ts ≤ sumBy g ts
 sumBy-mono f g h [] = le-refl 0

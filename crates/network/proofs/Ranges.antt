@@ -1,15 +1,18 @@
 -- What the struct's invariant says of its roads, and what keeps the numbers of a step in range.
 use mathlib.Core.Path.{_≡_, refl, sym, ap, subst, _∙_}
 use mathlib.Core.List.{List}
-use Prim.Native.Nat.{ℕ, zero, suc, _+_, _-_, _≤_, _<_}
+use Prim.Native.Nat.{ℕ, zero, suc, _-_, _≤_, _<_}
 use native.Mathlib.Omega.{arith}
 use lib.ListN.{length, getD}
 use Rattle.model.specs.State.{capped, told}
 use Rattle.model.specs.Model.{lit}
 use Rattle.model.proofs.State.{capped-below, told-at}
+use Rattle.network.specs.declared.links.Link.{Link}
 use Rattle.network.specs.declared.network.Network.{Network}
 use Rattle.network.specs.Code.{roads}
-use Rattle.network.specs.Network.{Roads, Sound, Ready, tops, loads, inflow, amount, release, releases, let-out, Lets-out, Greatest}
+use Rattle.network.specs.Network.{Roads, Sound, link, tops, loads, inflow, amount, release, releases, let-out, Lets-out, Greatest}
+use Rattle.network.specs.Parts.{Ready, Numbers-of, None-of}
+use Rattle.network.proofs.Bounds.{inflow-small}
 use Rattle.network.proofs.Easing.{release-greatest}
 use Rattle.network.proofs.Sizes.{length-tops, length-loads, top-high, top-past, load-top, load-past, wish-le, getD-tops, getD-loads, getD-releases, release-past, inflow-past}
 
@@ -22,14 +25,22 @@ told-none xs n zero h z = refl
 told-none xs n (suc k) h z = z k (omega (arith, h (omega arith)))
 
 module _ (n : Roads) (ok : Sound n) (p : ℕ) (h : 1 ≤ p → length (n .links) < p) where
-  pub top-outside : told (tops n) p ≡ 0
-  top-outside = told-none (tops n) (length (n .links)) p h (λ k l. getD-tops n ok k ∙ top-past n k l)
-
-  pub load-outside : told (loads n) p ≡ 0
-  load-outside = told-none (loads n) (length (n .links)) p h (λ k l. getD-loads n ok k ∙ load-past n k l)
+  pub none-of : None-of n p
+  none-of =
+      record {
+        top = told-none (tops n) (length (n .links)) p h (λ k l. getD-tops n ok k ∙ top-past n k l);
+        load = told-none (loads n) (length (n .links)) p h (λ k l. getD-loads n ok k ∙ load-past n k l);
+      }
 
   pub release-outside : (r q : List ℕ) → told (releases n r q) p ≡ 0
   release-outside r q = told-none (releases n r q) (length (n .links)) p h (λ k l. getD-releases n ok r q k ∙ release-past n ok r q k l)
+
+pub numbers-of : (n : Roads) → Sound n → (p : ℕ) (l : Link) → 1 ≤ p → l ≡ link n (p - 1) → Numbers-of n p l
+numbers-of n ok p l h e =
+    record {
+      top = ap (λ k. k .top) e ∙ (sym (getD-tops n ok (p - 1)) ∙ sym (told-at (tops n) p h));
+      load = ap (λ k. k .load) e ∙ (sym (getD-loads n ok (p - 1)) ∙ sym (told-at (loads n) p h));
+    }
 
 pub ready : (n : Roads) → Sound n → (r x v o q w : List ℕ) → o ≡ releases n r q → q ≡ capped (tops n) x → w ≡ capped (loads n) v → Ready n o q w
 ready n ok r x v o q w a b c =
@@ -48,6 +59,10 @@ module _ (n : Roads) (ok : Sound n) (o q v : List ℕ) (s : Ready n o q v) where
 
   pub arrival-small : (k : ℕ) → getD v k 0 ≤ 100000
   arrival-small k = omega (arith, s .arrived k, load-top n ok k, top-high n ok k)
+
+  pub inflow-few : (k : ℕ) → inflow n o k ≤ 25600000
+  unfolding inflow
+  inflow-few k = inflow-small n ok o out-small k
 
   pub amount-past : (k : ℕ) → length (n .links) ≤ k → amount n o q v k ≡ 0
   unfolding amount

@@ -1,22 +1,19 @@
 -- The numbers of each link: within their ranges, and 0 past the last link.
-use mathlib.Core.Path.{_≡_, refl, sym, ap, _∙_}
-use mathlib.Core.Bool.{cond}
+use mathlib.Core.Path.{_≡_, refl, ap}
 use mathlib.Core.List.{List}
 use mathlib.Core.Logic.{⊎-elim}
 use Prim.Native.Nat.{ℕ, _+_, _≤_, _<_, min}
 use native.Mathlib.Omega.{arith}
 use lib.Dec.{eqb}
 use lib.ListN.{length, getD}
-use Rattle.std.specs.shelf.Lists.{All}
 use Rattle.std.proofs.shelf.Elements.{all-from-getD}
 use Rattle.std.proofs.shelf.Lists.{getD-past}
 use Rattle.std.proofs.shelf.Sums.{sumBy-le}
 use Rattle.std.proofs.shelf.Tests.{cases-lt, cond-both, cond-false, ne-eqb}
 use Rattle.model.specs.State.{Below}
 use Rattle.model.proofs.State.{length-whole, getD-whole-all}
-use Rattle.network.specs.declared.links.Turn.{Turn}
 use Rattle.network.specs.Sound.{no-link, no-turn}
-use Rattle.network.specs.Network.{Roads, Sound, link, tops, loads, green, wish, release, releases, turned, turned-into, inflow, Greatest}
+use Rattle.network.specs.Network.{Roads, Sound, link, tops, loads, green, wish, release, releases, turned, turned-into, inflow}
 use Rattle.network.proofs.Easing.{release-greatest}
 
 pub length-tops : (n : Roads) → length (tops n) ≡ 64

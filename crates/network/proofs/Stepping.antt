@@ -4,10 +4,10 @@ use mathlib.Core.List.{List}
 use Prim.Native.Nat.{ℕ}
 use lib.ListN.{length}
 use Rattle.model.specs.declared.Answer.{Answer}
-use Rattle.model.specs.declared.Step.{Step}
 use Rattle.model.specs.State.{capped}
 use Rattle.model.specs.Model.{lit, lowest, stepped}
-use Rattle.network.specs.Network.{Roads, tops, loads, wishes, releases, eased, amounts, verdict-at, moved, judged, let-out, network}
+use Rattle.network.specs.Network.{Roads, tops, loads, wishes, releases, amounts, verdict-at, moved, judged, let-out, network}
+use Rattle.network.specs.Parts.{eased}
 use Rattle.network.proofs.Easing.{eased-wishes}
 
 -- tops t, lamps l, queues q, wishes w and releases o, at the row r and the state x

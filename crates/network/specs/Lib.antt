@@ -1,3 +1,4 @@
 pub mod Sound
 pub mod Network
+pub mod Parts
 pub mod Code

@@ -2,7 +2,7 @@
 -- Links are counted from 0 here, as the places of a state are, and from 1 in a turn and in an answer.
 -- In a step r is the row that counts, q the queues before it within the tops, and v the arrivals within the loads.
 use mathlib.Core.Path.{_≡_}
-use mathlib.Core.Bool.{Bool, true, cond, _&&_}
+use mathlib.Core.Bool.{Bool, cond, _&&_}
 use mathlib.Core.List.{List, [], _∷_}
 use Prim.Native.Nat.{ℕ, _+_, _-_, _*_, _/_, _%_, _^_, _≤_, _<_, min}
 use lib.Dec.{ltb, eqb}
@@ -14,7 +14,7 @@ use Rattle.std.specs.shelf.Lists.{sumBy, All}
 use Rattle.model.specs.declared.Answer.{Answer}
 use Rattle.model.specs.declared.Answer.the-variants.{Clear, Held}
 use Rattle.model.specs.declared.Cause.the-variants.{Blocked, Overflow}
-use Rattle.model.specs.State.{Below, whole, capped, fits-row}
+use Rattle.model.specs.State.{whole, capped}
 use Rattle.model.specs.Model.{Meaning, Core, model, lowest, lit}
 use Rattle.network.specs.declared.links.Link.{Link}
 use Rattle.network.specs.declared.links.Turn.{Turn}
@@ -83,10 +83,6 @@ tightened n q k w t = cond (eqb (t .from) (k + 1)) (min w (passage n q t)) w
 unfoldable pub release : Roads → List ℕ → List ℕ → ℕ → ℕ
 release n r q k = folded (tightened n q k) (wish n r q k) (n .turns)
 
--- what each link lets out where w has what it asks for
-unfoldable pub eased : Roads → List ℕ → List ℕ → List ℕ
-eased n q w = whole (λ k. folded (tightened n q k) (getD w k 0) (n .turns))
-
 -- what each link would let out, and what each lets out
 unfoldable pub wishes : Roads → List ℕ → List ℕ → List ℕ
 wishes n r q = whole (wish n r q)
@@ -123,7 +119,7 @@ moved n r q v = capped (tops n) (amounts n (releases n r q) q v)
 
 -- link k with its wish w, release o, amount a and top t:
 -- blocked where the release is below the wish, else an overflow where the top cuts the amount off
-unfoldable pub verdict : ℕ → ℕ → ℕ → ℕ → ℕ → Answer
+abbrev pub verdict : ℕ → ℕ → ℕ → ℕ → ℕ → Answer
 verdict k w o a t = cond (ltb o w) (Held (k + 1) Blocked) (cond (ltb t a) (Held (k + 1) Overflow) Clear)
 
 -- the verdict on link k among the wishes, releases, amounts and tops of all links
@@ -140,6 +136,11 @@ pub record Flows (n : Roads) (r q v : List ℕ) : Type 0 where
   pub full : (k : ℕ) → k < length (n .links) → release n r q k ≡ wish n r q k
   pub fit : (k : ℕ) → k < length (n .links) → amount n (releases n r q) q v k ≤ link n k .top
 
+-- the answer a to the row r, the state x and the arrivals v is clear exactly where traffic flows
+pub record Clear-where-flows (n : Roads) (r x v : List ℕ) (a : Answer) : Type 0 where
+  pub flows : a ≡ Clear → Flows n (lit (n .phases) r) (capped (tops n) x) (capped (loads n) v)
+  pub clear : Flows n (lit (n .phases) r) (capped (tops n) x) (capped (loads n) v) → a ≡ Clear
+
 abbrev pub core : Roads → Core
 core n = record {
   places = length (n .links);
@@ -152,12 +153,6 @@ core n = record {
 
 abbrev pub network : Roads → Meaning
 network n = model (core n)
-
--- what the amounts are worked out from: releases within the queues, queues within the tops, arrivals within the loads
-pub record Ready (n : Roads) (o q v : List ℕ) : Type 0 where
-  pub leaving : Below o q
-  pub queued : Below q (tops n)
-  pub arrived : Below v (loads n)
 
 -- what each link lets out at the row r and the state x
 abbrev pub let-out : Roads → List ℕ → List ℕ → List ℕ

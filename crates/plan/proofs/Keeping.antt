@@ -19,11 +19,11 @@ use Rattle.plan.specs.declared.limits.Limit.{Limit}
 use Rattle.plan.specs.Limits.{weighed, total, Kept, Keeps, broken-from, first-broken}
 
 module _ (ls : List Limit) (x : List ℕ) (i : ℕ) (d : Limit) (h : i < length ls) where
-  pub broken-here : getD ls i d .bound < total x (getD ls i d .terms) → broken-from (i + 1) (drop i ls) x ≡ Some (i + 1)
-  broken-here l = at-drop-more (λ ks. broken-from (i + 1) ks x) ls i d h ∙ cond-true _ _ _ (lt-ltb _ _ l)
+  pub broken-here : true ≡ ltb (getD ls i d .bound) (total x (getD ls i d .terms)) → broken-from (i + 1) (drop i ls) x ≡ Some (i + 1)
+  broken-here l = at-drop-more (λ ks. broken-from (i + 1) ks x) ls i d h ∙ cond-true _ _ _ (sym l)
 
-  pub broken-more : total x (getD ls i d .terms) ≤ getD ls i d .bound → broken-from (i + 1) (drop i ls) x ≡ broken-from (i + 1 + 1) (drop (i + 1) ls) x
-  broken-more l = at-drop-more (λ ks. broken-from (i + 1) ks x) ls i d h ∙ cond-false _ _ _ (le-ltb _ _ l)
+  pub broken-more : false ≡ ltb (getD ls i d .bound) (total x (getD ls i d .terms)) → broken-from (i + 1) (drop i ls) x ≡ broken-from (i + 1 + 1) (drop (i + 1) ls) x
+  broken-more l = at-drop-more (λ ks. broken-from (i + 1) ks x) ls i d h ∙ cond-false _ _ _ (sym l)
 
 pub broken-done : (ls : List Limit) (x : List ℕ) (i : ℕ) → length ls ≤ i → broken-from (i + 1) (drop i ls) x ≡ None
 broken-done ls x i h = at-drop-all (λ ks. broken-from (i + 1) ks x) ls i h

@@ -4,8 +4,9 @@ ghost use mathlib.Core.Path.{_≡_};
 ghost use Prim.Native.Nat.{_≤_};
 ghost use lib.ListN.{take};
 ghost use Rattle.refusal.specs.Questions.{told-by};
+ghost use Rattle.model.specs.State.{lowest-above};
 ghost use Rattle.plan.specs.Faults.{check-refusal};
-ghost use Rattle.plan.specs.Check.{rows-of, check-row};
+ghost use Rattle.plan.specs.Check.{rows-of, check-row, ask-end};
 ghost use Rattle.plan.specs.Accepts.{Checked};
 use crate::fault::CheckFault;
 use crate::limits::Limit;
@@ -50,6 +51,16 @@ fn pass_row<M: Model>(
     }
 }
 
+// The count of the rows, unless the state after the last of them is above the start.
+fn pass_end(count: usize, state: &[u32; 64], start: &[u32; 64]) -> Result<usize, CheckFault>
+    ensures { λ r. ⌜ told-by check-refusal r ≡ ask-end count (lowest-above (now (state .entry)) (now (start .entry))) ⌝ }
+{
+    match lowest_place_above(state, start) {
+        Some(place) => Err(CheckFault::EndAbove(count, place)),
+        None => Ok(count),
+    }
+}
+
 // The check of so many rows of a table from a start.
 fn check_rows<M: Model>(
     model: &M,
@@ -67,10 +78,7 @@ fn check_rows<M: Model>(
     for n in 0..count {
         state = pass_row(model, limits, n, rows[n], state, loads)?;
     }
-    match lowest_place_above(&state, start) {
-        Some(place) => Err(CheckFault::EndAbove(count, place)),
-        None => Ok(count),
-    }
+    pass_end(count, &state, start)
 }
 
 // The count of the plan's rows, or the first no along its heaviest run.

@@ -1,6 +1,6 @@
 // Limits: bounds on weighted sums of a state.
 ghost use mathlib.Core.Path.{_≡_};
-ghost use Prim.Native.Nat.{_*_, _^_, _<_, _≤_};
+ghost use lib.Dec.{ltb};
 ghost use Rattle.plan.specs.Limits.{weighed, total, first-broken};
 use model::states::number_at;
 
@@ -38,12 +38,18 @@ fn sum(terms: &[Term; 8], state: &[u32; 64]) -> u128
     sum
 }
 
+fn is_broken(limit: &Limit, state: &[u32; 64]) -> bool
+    ensures { λ r. ⌜ r ≡ ltb (now (limit .entry) .bound) (total (now (state .entry)) (now (limit .entry) .terms)) ⌝ }
+{
+    sum(&limit.terms, state) > u128::from(limit.bound)
+}
+
 // The number of the first limit, counted from 1, that the state does not keep.
 pub fn first_broken(limits: &[Limit], state: &[u32; 64]) -> Option<usize>
     ensures { λ r. ⌜ r ≡ first-broken (now (limits .entry)) (now (state .entry)) ⌝ }
 {
     for (i, limit) in limits.iter().enumerate() {
-        if sum(&limit.terms, state) > u128::from(limit.bound) {
+        if is_broken(limit, state) {
             return Some(i + 1);
         }
     }

@@ -1,18 +1,30 @@
 -- A sheet is accepted exactly where it says a plan whose every one-round run holds.
-use mathlib.Core.Path.{_≡_, refl, subst}
-use mathlib.Core.Bool.{Bool, false}
-use mathlib.Core.List.{List}
-use Prim.Native.Nat.{ℕ}
+use mathlib.Core.Path.{_≡_, refl, ap, subst, _∙_}
+use mathlib.Core.Bool.{false}
+use mathlib.Core.List.{List, map}
+use Prim.Native.Nat.{ℕ, _≤_}
 use native.Mathlib.Omega.{arith}
+use lib.ListN.{length, replicate, length-take}
 use Rattle.std.specs.Orderings.{Decides}
+use Rattle.std.specs.Results.{isOk}
+use Rattle.std.specs.declared.result.Result.{Result}
 use Rattle.std.specs.declared.result.Result.the-variants.{Ok, Err}
+use Rattle.std.proofs.shelf.Lists.{length-replicate}
 use Rattle.refusal.specs.declared.Refusal.{Refusal}
+use Rattle.refusal.specs.Questions.{told-by}
 use Rattle.refusal.proofs.Turning.{ok-same}
-use Rattle.model.specs.Model.{Meaning}
+use Rattle.model.specs.Model.{Meaning, Lawful}
 use Rattle.plan.specs.declared.limits.Limit.{Limit}
+use Rattle.plan.specs.Check.{checked}
 use Rattle.plan.specs.Runs.{Every-run-holds}
+use Rattle.plan.proofs.Accepts.{checked-passed, checked-passes, told-decides}
+use Rattle.plan.proofs.Runs.{passes-hold, holds-pass}
+use Rattle.words.specs.Tables.{tabled}
+use Rattle.words.proofs.Written.{length-written}
+use Rattle.plan_sheet.specs.declared.fault.PlanFault.{PlanFault}
+use Rattle.plan_sheet.specs.Faults.{plan-refusal}
 use Rattle.plan_sheet.specs.Plans.{PlanSaid}
-use Rattle.plan_sheet.specs.Says.{Exact}
+use Rattle.plan_sheet.specs.Says.{Says, Exact}
 use Rattle.plan_sheet.specs.Accepts.{rows-said, Accepts}
 
 module _ (m : Meaning) (ls : List Limit) (bs : List ℕ) where
@@ -24,10 +36,26 @@ module _ (m : Meaning) (ls : List Limit) (bs : List ℕ) where
         holds = λ p s. absurd (let e = x p .1 s in let z : _≡_ {A = ℕ} 0 1 = cc in omega arith);
       }
 
-  -- a sheet that says p, with what the check decides
-  pub says-one : (p : PlanSaid) (accepted : Bool) → Exact m bs (Ok p) → Decides accepted (Every-run-holds m ls (p .start) (rows-said p)) → Accepts m ls bs accepted
-  says-one p accepted x d =
+  -- the start and the rows of a plan that a sheet says
+  whole-start : (p : PlanSaid) → Says m bs p → length (p .start) ≡ 64
+  whole-start p s = ap length (s .start) ∙ length-written (replicate 64 0) 0 (s .queues) ∙ length-replicate {A = ℕ} 64 0
+
+  some-rows : (p : PlanSaid) → Says m bs p → 1 ≤ length (rows-said p)
+  some-rows p s =
+      let long : length (p .rows) ≡ 64 = ap length (s .table) ∙ length-written {A = List ℕ} (replicate 64 (replicate 32 0)) 0 (map (tabled 32) (s .rows)) ∙ length-replicate {A = List ℕ} 64 (replicate 32 0) in
+      simp length-take (omega (arith, s .count, s .some, s .few))
+
+  -- a sheet that says p, with an answer that tells the check of p
+  pub says-one : Lawful m → (p : PlanSaid) (r : Result ℕ PlanFault) → Exact m bs (Ok p) → told-by plan-refusal r ≡ checked m ls (p .start) (rows-said p) → Accepts m ls bs (isOk r)
+  says-one law p r x e =
+      let start : List ℕ = p .start in
+      let rs : List (List ℕ) = rows-said p in
+      let s : Says m bs p = x p .0 refl in
+      let d : Decides (isOk r) (Every-run-holds m ls start rs) =
+          told-decides plan-refusal r (checked m ls start rs) (Every-run-holds m ls start rs) e
+          (λ k a. passes-hold m law ls start rs (some-rows p s) (checked-passed m ls law start rs k (whole-start p s) a))
+          (λ h. (length rs, checked-passes m ls start rs (holds-pass m law ls start rs (whole-start p s) h))) in
       record {
-        says = λ e. (p, x p .0 refl);
-        holds = λ q s. subst (λ y. Decides accepted (Every-run-holds m ls (y .start) (rows-said y))) (ok-same (x q .1 s)) d;
+        says = λ a. (p, s);
+        holds = λ q t. subst (λ y. Decides (isOk r) (Every-run-holds m ls (y .start) (rows-said y))) (ok-same (x q .1 t)) d;
       }

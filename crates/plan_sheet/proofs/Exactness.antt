@@ -2,10 +2,10 @@
 use mathlib.Core.Path.{_≡_, refl, sym, ap, subst, _∙_}
 use mathlib.Core.Logic.{⊎-elim}
 use mathlib.Core.List.{List, [], _∷_, map}
-use Prim.Native.Nat.{ℕ, zero, suc, _+_, _-_, _≤_}
+use Prim.Native.Nat.{ℕ, zero, suc, _+_, _≤_}
 use native.Mathlib.Omega.{arith}
 use lib.Chars.{codes}
-use lib.ListN.{length, getD, set, replicate}
+use lib.ListN.{length, set, replicate}
 use Rattle.std.specs.Joined.{joined}
 use Rattle.std.specs.Written.{decimal}
 use Rattle.std.specs.shelf.Lists.{All}
@@ -14,21 +14,21 @@ use Rattle.std.specs.declared.result.Result.the-variants.{Ok}
 use Rattle.refusal.specs.Questions.{Told, no, then, turns}
 use Rattle.refusal.proofs.Turning.{then-parts, then-ok, ok-same}
 use Rattle.model.specs.Model.{Meaning, Lawful}
-use Rattle.words.specs.declared.number.Reading.{Reading}
+use Rattle.model.proofs.State.{told-next}
 use Rattle.words.specs.Words.{short-sheet}
 use Rattle.words.specs.Numbers.{number-at, section-at}
 use Rattle.words.specs.Spelling.{Next, Spelled}
 use Rattle.words.specs.Tables.{written, tabled, UpTo}
-use Rattle.words.proofs.Due.{short-stands, short-read, section-stands, section-read, number-stands, number-read}
+use Rattle.words.proofs.Due.{short-stands, short-read, due, found, section-stands, section-read}
 use Rattle.words.proofs.Filling.{Fills, fill-stands, fill-read, spelled-join, spelled-split}
 use Rattle.plan_sheet.specs.declared.read.Start.{Start}
 use Rattle.plan_sheet.specs.declared.read.Row.{Row}
 use Rattle.plan_sheet.specs.declared.read.Rows.{Rows}
-use Rattle.plan_sheet.specs.Plans.{PlanSaid, place-at, start-at, mode-at, modes-at, legal-only, row-at, next-row, rows-at, start-section, rows-section, sections, plan-sheet}
+use Rattle.plan_sheet.specs.Plans.{PlanSaid, top-of, place-at, start-at, mode-at, modes-at, legal-only, row-at, next-row, rows-at, start-section, with-rows, rows-section, plan-sheet}
 use Rattle.plan_sheet.specs.Says.{RowOf, Says, Exact}
 
 module _ (m : Meaning) (bs : List ℕ) where
-  abbrev start-fills : Fills Start bs (λ k. getD (m .tops) k 0) (place-at m bs)
+  abbrev start-fills : Fills Start bs (top-of m) (place-at m bs)
   start-fills = record { end = λ s. s .end; table = λ s. s .queues; put = λ k s n. record { queues = set (s .queues) k (n .value); end = n .end }; reads = λ k s. refl; ends = λ k s n. refl; sets = λ k s n. refl }
 
   abbrev row-fills : Fills Row bs (λ _. 8) (mode-at bs)
@@ -65,14 +65,13 @@ module _ (m : Meaning) (bs : List ℕ) where
     lawful : All (RowOf m) rows
     spelled : Spelled bs (s .end) (joined (map decimal) rows) (t .end)
     table : t .table ≡ written (s .table) k (map (tabled 32) rows)
-    count : t .count ≡ s .count
 
   rows-stand : (n k : ℕ) (s t : Rows) → turns (next-row m bs) n k s ≡ Ok t → Rows-said n k s t
-  rows-stand zero k s t h = let e : s ≡ t = ok-same h in record { rows = []; long = refl; lawful = tt; spelled = ap (λ r. r .end) e; table = ap (λ r. r .table) (sym e); count = ap (λ r. r .count) (sym e) }
+  rows-stand zero k s t h = let e : s ≡ t = ok-same h in record { rows = []; long = refl; lawful = tt; spelled = ap (λ r. r .end) e; table = ap (λ r. r .table) (sym e) }
   rows-stand (suc n) k s t h =
       let p = then-parts (next-row m bs k s) (turns (next-row m bs) n (k + 1)) t h in
-      let q = then-parts (row-at m bs (s .end)) (λ r. Ok (record { table = set (s .table) k (r .modes); count = s .count; end = r .end })) (p .0) (p .1) in
-      let is : record { table = set (s .table) k (q .0 .modes); count = s .count; end = q .0 .end } ≡ p .0 = ok-same (q .2) in
+      let q = then-parts (row-at m bs (s .end)) (λ r. Ok (record { table = set (s .table) k (r .modes); end = r .end })) (p .0) (p .1) in
+      let is : record { table = set (s .table) k (q .0 .modes); end = q .0 .end } ≡ p .0 = ok-same (q .2) in
       let d = row-stands (s .end) (q .0) (q .1) in
       let r = rows-stand n (k + 1) (p .0) t (p .2) in
       record {
@@ -81,95 +80,104 @@ module _ (m : Meaning) (bs : List ℕ) where
         lawful = (d .lawful, r .lawful);
         spelled = spelled-join bs (map decimal (d .values)) (joined (map decimal) (r .rows)) (s .end) (q .0 .end) (t .end) (d .spelled) (subst (λ a. Spelled bs a (joined (map decimal) (r .rows)) (t .end)) (sym (ap (λ x. x .end) is)) (r .spelled));
         table = r .table ∙ ap (λ x. written x (k + 1) (map (tabled 32) (r .rows))) (sym (ap (λ x. x .table) is) ∙ ap (set (s .table) k) (d .table));
-        count = r .count ∙ sym (ap (λ x. x .count) is);
       }
 
-  rows-read : (rs : List (List ℕ)) (k : ℕ) (s : Rows) (to : ℕ) → All (RowOf m) rs → Spelled bs (s .end) (joined (map decimal) rs) to → (t : Rows) × (turns (next-row m bs) (length rs) k s ≡ Ok t) × (t .end ≡ to) × (t .table ≡ written (s .table) k (map (tabled 32) rs)) × (t .count ≡ s .count)
-  rows-read [] k s to l h = (s, refl, h, refl, refl)
+  rows-read : (rs : List (List ℕ)) (k : ℕ) (s : Rows) (to : ℕ) → All (RowOf m) rs → Spelled bs (s .end) (joined (map decimal) rs) to → (t : Rows) × (turns (next-row m bs) (length rs) k s ≡ Ok t) × (t .end ≡ to) × (t .table ≡ written (s .table) k (map (tabled 32) rs))
+  rows-read [] k s to l h = (s, refl, h, refl)
   rows-read (vs ∷ rs) k s to l h =
       let p = spelled-split bs (map decimal vs) (joined (map decimal) rs) (s .end) to h in
       let d = row-read (s .end) vs (p .0) (l .0) (p .1) in
-      let u : Rows = record { table = set (s .table) k (d .0 .modes); count = s .count; end = d .0 .end } in
+      let u : Rows = record { table = set (s .table) k (d .0 .modes); end = d .0 .end } in
       let got : next-row m bs k s ≡ Ok u = then-ok _ (d .1) in
       let r = rows-read rs (k + 1) u to (l .1) (subst (λ a. Spelled bs a (joined (map decimal) rs) to) (sym (d .2)) (p .2)) in
-      (r .0, then-ok (turns (next-row m bs) (length rs) (k + 1)) got ∙ r .1, r .2, r .3 ∙ ap (λ x. written (set (s .table) k x) (k + 1) (map (tabled 32) rs)) (d .3), r .4)
+      (r .0, then-ok (turns (next-row m bs) (length rs) (k + 1)) got ∙ r .1, r .2, r .3 ∙ ap (λ x. written (set (s .table) k x) (k + 1) (map (tabled 32) rs)) (d .3))
 
-  record Start-said (at : ℕ) (s : Start) : Type 0 where
+  abbrev start-words : List ℕ → List (List ℕ)
+  start-words queues = codes "start" ∷ decimal (length queues) ∷ map decimal queues
+
+  abbrev rows-words : List (List ℕ) → List (List ℕ)
+  rows-words rows = codes "rows" ∷ decimal (length rows) ∷ joined (map decimal) rows
+
+  record Start-said (s : Start) : Type 0 where
     queues : List ℕ
     long : length queues ≡ m .places
-    tops : UpTo (λ k. getD (m .tops) k 0) 0 queues
-    spelled : Spelled bs at (codes "start" ∷ decimal (length queues) ∷ map decimal queues) (s .end)
+    tops : UpTo (top-of m) 0 queues
+    spelled : Spelled bs 0 (start-words queues) (s .end)
     table : s .queues ≡ tabled 64 queues
 
-  start-stands : (at : ℕ) (s : Start) → start-section m bs at ≡ Ok s → Start-said at s
-  start-stands at s h =
-      let p = then-parts (section-at bs at (codes "start")) (λ a. then (number-at bs a (m .places) (m .places)) (λ n. start-at m bs (n .end))) s h in
-      let q = then-parts (number-at bs (p .0) (m .places) (m .places)) (λ n. start-at m bs (n .end)) s (p .2) in
-      let c = number-stands bs (p .0) (m .places) (m .places) (q .0) (q .1) in
+  start-stands : (s : Start) → start-section m bs ≡ Ok s → Start-said s
+  start-stands s h =
+      let p = then-parts (section-at bs 0 (codes "start")) (λ a. then (number-at bs a (m .places) (m .places)) (λ n. start-at m bs (n .end))) s h in
+      let q = due bs (p .0) (m .places) (m .places) (λ n. start-at m bs (n .end)) s (p .2) in
       let d = fill-stands start-fills (m .places) 0 (record { queues = replicate 64 0; end = q .0 .end }) s (q .2) in
-      let counted : q .0 .value ≡ length (d .values) = omega (arith, c .above, c .below, d .long) in
+      let counted : q .0 .value ≡ length (d .values) = omega (arith, q .1 .above, q .1 .below, d .long) in
       record {
         queues = d .values;
         long = d .long;
         tops = d .within;
-        spelled = (p .0, section-stands bs at (codes "start") (p .0) (p .1), (q .0 .end, subst (λ v. Next bs (p .0) (decimal v) (q .0 .end)) counted (c .next), d .spelled));
+        spelled = (p .0, section-stands bs 0 (codes "start") (p .0) (p .1), (q .0 .end, subst (λ v. Next bs (p .0) (decimal v) (q .0 .end)) counted (q .1 .next), d .spelled));
         table = d .table;
       }
 
-  start-read : Lawful m → (at : ℕ) (vs : List ℕ) (to : ℕ) → length vs ≡ m .places → UpTo (λ k. getD (m .tops) k 0) 0 vs → Spelled bs at (codes "start" ∷ decimal (length vs) ∷ map decimal vs) to → (s : Start) × (start-section m bs at ≡ Ok s) × (s .end ≡ to) × (s .queues ≡ tabled 64 vs)
-  start-read b at vs to long tops h =
+  start-read : Lawful m → (vs : List ℕ) (to : ℕ) → length vs ≡ m .places → UpTo (top-of m) 0 vs → Spelled bs 0 (start-words vs) to → (s : Start) × (start-section m bs ≡ Ok s) × (s .end ≡ to) × (s .queues ≡ tabled 64 vs)
+  start-read b vs to long tops h =
       let a : ℕ = h .0 in
       let rest = h .2 in
-      let n : Reading = record { value = length vs; place = rest .0 - length (decimal (length vs)); end = rest .0 } in
-      let d = fill-read start-fills (λ k. omega (arith, b .high-tops k)) vs 0 (record { queues = replicate 64 0; end = rest .0 }) to tops (rest .2) in
-      let named : section-at bs at (codes "start") ≡ Ok a = section-read bs at (codes "start") a refl (h .1) in
-      let counted : number-at bs a (m .places) (m .places) ≡ Ok n = number-read bs a (m .places) (m .places) (length vs) (rest .0) (rest .1) (omega (arith, long)) (omega (arith, long)) (omega (arith, long, b .few-places)) in
+      let d = fill-read start-fills (λ k. omega (arith, b .high-tops k, told-next (m .tops) k)) vs 0 (record { queues = replicate 64 0; end = rest .0 }) to tops (rest .2) in
+      let named : section-at bs 0 (codes "start") ≡ Ok a = section-read bs 0 (codes "start") a refl (h .1) in
       let got : start-at m bs (rest .0) ≡ Ok (d .0) = ap (λ k. turns (place-at m bs) k 0 (record { queues = replicate 64 0; end = rest .0 })) (sym long) ∙ d .1 in
-      (d .0, then-ok _ named ∙ then-ok (λ r. start-at m bs (r .end)) counted ∙ got, d .2, d .3)
+      (
+        d .0,
+        then-ok _ named ∙ found bs a (m .places) (m .places) (length vs) (rest .0) (λ r. start-at m bs (r .end)) (rest .1) (omega (arith, long)) (omega (arith, long)) (omega (arith, long, b .few-places)) ∙ got,
+        d .2,
+        d .3,
+      )
 
-  record Section-said (at : ℕ) (t : Rows) : Type 0 where
+  record Section-said (s : Start) (p : PlanSaid) : Type 0 where
     rows : List (List ℕ)
     some : 1 ≤ length rows
     few : length rows ≤ 64
     lawful : All (RowOf m) rows
-    spelled : Spelled bs at (codes "rows" ∷ decimal (length rows) ∷ joined (map decimal) rows) (t .end)
-    table : t .table ≡ written (replicate 64 (replicate 32 0)) 0 (map (tabled 32) rows)
-    count : t .count ≡ length rows
+    spelled : Spelled bs (s .end) (rows-words rows) (p .end)
+    start : p .start ≡ s .queues
+    table : p .rows ≡ written (replicate 64 (replicate 32 0)) 0 (map (tabled 32) rows)
+    count : p .count ≡ length rows
 
-  section-said : (at : ℕ) (t : Rows) → rows-section m bs at ≡ Ok t → Section-said at t
-  section-said at t h =
-      let p = then-parts (section-at bs at (codes "rows")) (λ a. then (number-at bs a 1 64) (λ n. rows-at m bs (n .end) (n .value))) t h in
-      let q = then-parts (number-at bs (p .0) 1 64) (λ n. rows-at m bs (n .end) (n .value)) t (p .2) in
-      let c = number-stands bs (p .0) 1 64 (q .0) (q .1) in
-      let d = rows-stand (q .0 .value) 0 (record { table = replicate 64 (replicate 32 0); count = q .0 .value; end = q .0 .end }) t (q .2) in
-      record {
+  section-said : (s : Start) (p : PlanSaid) → rows-section m bs s ≡ Ok p → Section-said s p
+  section-said s p h =
+      let a = then-parts (section-at bs (s .end) (codes "rows")) (λ a. then (number-at bs a 1 64) (λ n. with-rows m bs s (n .end) (n .value))) p h in
+      let n = due bs (a .0) 1 64 (λ n. with-rows m bs s (n .end) (n .value)) p (a .2) in
+      let r = then-parts (rows-at m bs (n .0 .end) (n .0 .value)) (λ r. Ok (record { start = s .queues; rows = r .table; count = n .0 .value; end = r .end })) p (n .2) in
+      let d = rows-stand (n .0 .value) 0 (record { table = replicate 64 (replicate 32 0); end = n .0 .end }) (r .0) (r .1) in
+      subst (Section-said s) (ok-same (r .2)) (record {
         rows = d .rows;
-        some = omega (arith, c .above, d .long);
-        few = omega (arith, c .below, d .long);
+        some = omega (arith, n .1 .above, d .long);
+        few = omega (arith, n .1 .below, d .long);
         lawful = d .lawful;
-        spelled = (p .0, section-stands bs at (codes "rows") (p .0) (p .1), (q .0 .end, subst (λ v. Next bs (p .0) (decimal v) (q .0 .end)) (sym (d .long)) (c .next), d .spelled));
+        spelled = (a .0, section-stands bs (s .end) (codes "rows") (a .0) (a .1), (n .0 .end, subst (λ v. Next bs (a .0) (decimal v) (n .0 .end)) (sym (d .long)) (n .1 .next), d .spelled));
+        start = refl;
         table = d .table;
-        count = d .count ∙ sym (d .long);
-      }
+        count = sym (d .long);
+      })
 
-  section-back : (at : ℕ) (rs : List (List ℕ)) (to : ℕ) → 1 ≤ length rs → length rs ≤ 64 → All (RowOf m) rs → Spelled bs at (codes "rows" ∷ decimal (length rs) ∷ joined (map decimal) rs) to → (t : Rows) × (rows-section m bs at ≡ Ok t) × (t .end ≡ to) × (t .table ≡ written (replicate 64 (replicate 32 0)) 0 (map (tabled 32) rs)) × (t .count ≡ length rs)
-  section-back at rs to some few lawful h =
+  section-back : (s : Start) (rs : List (List ℕ)) (to : ℕ) → 1 ≤ length rs → length rs ≤ 64 → All (RowOf m) rs → Spelled bs (s .end) (rows-words rs) to → rows-section m bs s ≡ Ok (record { start = s .queues; rows = written (replicate 64 (replicate 32 0)) 0 (map (tabled 32) rs); count = length rs; end = to })
+  section-back s rs to some few lawful h =
       let a : ℕ = h .0 in
       let rest = h .2 in
-      let n : Reading = record { value = length rs; place = rest .0 - length (decimal (length rs)); end = rest .0 } in
-      let d = rows-read rs 0 (record { table = replicate 64 (replicate 32 0); count = length rs; end = rest .0 }) to lawful (rest .2) in
-      let named : section-at bs at (codes "rows") ≡ Ok a = section-read bs at (codes "rows") a refl (h .1) in
-      let counted : number-at bs a 1 64 ≡ Ok n = number-read bs a 1 64 (length rs) (rest .0) (rest .1) some few (omega arith) in
-      (d .0, then-ok _ named ∙ then-ok (λ r. rows-at m bs (r .end) (r .value)) counted ∙ d .1, d .2, d .3, d .4)
+      let d = rows-read rs 0 (record { table = replicate 64 (replicate 32 0); end = rest .0 }) to lawful (rest .2) in
+      let named : section-at bs (s .end) (codes "rows") ≡ Ok a = section-read bs (s .end) (codes "rows") a refl (h .1) in
+      let is : record { start = s .queues; rows = d .0 .table; count = length rs; end = d .0 .end } ≡ record { start = s .queues; rows = written (replicate 64 (replicate 32 0)) 0 (map (tabled 32) rs); count = length rs; end = to } = λ i. record { start = s .queues; rows = (d .3) i; count = length rs; end = (d .2) i } in
+      then-ok _ named
+      ∙ found bs a 1 64 (length rs) (rest .0) (λ n. with-rows m bs s (n .end) (n .value)) (rest .1) some few (omega arith)
+      ∙ then-ok _ (d .1)
+      ∙ ap Ok is
 
-  sections-say : (p : PlanSaid) → length bs ≤ 65535 → sections m bs ≡ Ok p → Says m bs p
+  sections-say : (p : PlanSaid) → length bs ≤ 65535 → then (start-section m bs) (rows-section m bs) ≡ Ok p → Says m bs p
   sections-say p short h =
-      let a = then-parts (start-section m bs 0) (λ s. then (rows-section m bs (s .end)) (λ r. Ok (record { start = s .queues; rows = r .table; count = r .count; end = r .end }))) p h in
-      let b = then-parts (rows-section m bs (a .0 .end)) (λ r. Ok (record { start = a .0 .queues; rows = r .table; count = r .count; end = r .end })) p (a .2) in
-      let is : record { start = a .0 .queues; rows = b .0 .table; count = b .0 .count; end = b .0 .end } ≡ p = ok-same (b .2) in
-      let s = start-stands 0 (a .0) (a .1) in
-      let r = section-said (a .0 .end) (b .0) (b .1) in
-      subst (Says m bs) is (record {
+      let a = then-parts (start-section m bs) (rows-section m bs) p h in
+      let s = start-stands (a .0) (a .1) in
+      let r = section-said (a .0) p (a .2) in
+      record {
         queues = s .queues;
         rows = r .rows;
         short = short;
@@ -178,26 +186,24 @@ module _ (m : Meaning) (bs : List ℕ) where
         some = r .some;
         few = r .few;
         lawful = r .lawful;
-        words = spelled-join bs (codes "start" ∷ decimal (length (s .queues)) ∷ map decimal (s .queues)) (codes "rows" ∷ decimal (length (r .rows)) ∷ joined (map decimal) (r .rows)) 0 (a .0 .end) (b .0 .end) (s .spelled) (r .spelled);
-        start = s .table;
+        words = spelled-join bs (start-words (s .queues)) (rows-words (r .rows)) 0 (a .0 .end) (p .end) (s .spelled) (r .spelled);
+        start = r .start ∙ s .table;
         table = r .table;
         count = r .count;
-      })
+      }
 
-  says-sections : Lawful m → (p : PlanSaid) → Says m bs p → sections m bs ≡ Ok p
+  says-sections : Lawful m → (p : PlanSaid) → Says m bs p → then (start-section m bs) (rows-section m bs) ≡ Ok p
   says-sections b p s =
-      let w = spelled-split bs (codes "start" ∷ decimal (length (s .queues)) ∷ map decimal (s .queues)) (codes "rows" ∷ decimal (length (s .rows)) ∷ joined (map decimal) (s .rows)) 0 (p .end) (s .words) in
-      let a = start-read b 0 (s .queues) (w .0) (s .places) (s .tops) (w .1) in
-      let r = section-back (w .0) (s .rows) (p .end) (s .some) (s .few) (s .lawful) (w .2) in
-      let got : rows-section m bs (a .0 .end) ≡ Ok (r .0) = ap (rows-section m bs) (a .2) ∙ r .1 in
-      let q : PlanSaid = record { start = a .0 .queues; rows = r .0 .table; count = r .0 .count; end = r .0 .end } in
-      let is : q ≡ p = λ i. record { start = (a .3 ∙ sym (s .start)) i; rows = (r .3 ∙ sym (s .table)) i; count = (r .4 ∙ sym (s .count)) i; end = r .2 i } in
-      then-ok _ (a .1) ∙ then-ok _ got ∙ ap Ok is
+      let w = spelled-split bs (start-words (s .queues)) (rows-words (s .rows)) 0 (p .end) (s .words) in
+      let a = start-read b (s .queues) (w .0) (s .places) (s .tops) (w .1) in
+      let after : Spelled bs (a .0 .end) (rows-words (s .rows)) (p .end) = subst (λ e. Spelled bs e (rows-words (s .rows)) (p .end)) (sym (a .2)) (w .2) in
+      let is : record { start = a .0 .queues; rows = written (replicate 64 (replicate 32 0)) 0 (map (tabled 32) (s .rows)); count = length (s .rows); end = p .end } ≡ p = λ i. record { start = (a .3 ∙ sym (s .start)) i; rows = sym (s .table) i; count = sym (s .count) i; end = p .end } in
+      then-ok (rows-section m bs) (a .1) ∙ section-back (a .0) (s .rows) (p .end) (s .some) (s .few) (s .lawful) after ∙ ap Ok is
 
   pub exactly : Lawful m → Exact m bs (plan-sheet m bs)
   exactly b p = (
-    λ h. let q = then-parts (short-sheet bs) (λ _. sections m bs) p h in sections-say p (short-stands bs (q .1)) (q .2),
-    λ s. then-ok (λ _. sections m bs) (short-read bs (s .short)) ∙ says-sections b p s,
+    λ h. let q = then-parts (short-sheet bs) (λ _. then (start-section m bs) (rows-section m bs)) p h in sections-say p (short-stands bs (q .1)) (q .2),
+    λ s. then-ok _ (short-read bs (s .short)) ∙ says-sections b p s,
   )
 
   pub exact-at : Lawful m → (t : Told PlanSaid) → t ≡ plan-sheet m bs → Exact m bs t

@@ -4,7 +4,7 @@ use mathlib.Core.Bool.{true}
 use mathlib.Core.List.{List, _∷_, _++_, map}
 use Prim.Native.Nat.{ℕ, _≤_}
 use lib.Chars.{codes}
-use lib.ListN.{length, getD, replicate}
+use lib.ListN.{length, replicate}
 use Rattle.std.specs.Joined.{joined}
 use Rattle.std.specs.Written.{decimal}
 use Rattle.std.specs.shelf.Lists.{All}
@@ -13,7 +13,7 @@ use Rattle.refusal.specs.Questions.{Told}
 use Rattle.model.specs.Model.{Meaning}
 use Rattle.words.specs.Spelling.{Spelled}
 use Rattle.words.specs.Tables.{written, tabled, UpTo}
-use Rattle.plan_sheet.specs.Plans.{PlanSaid}
+use Rattle.plan_sheet.specs.Plans.{PlanSaid, top-of}
 
 -- a mode from 0 to 8 for each signal, legal as a row
 pub record RowOf (m : Meaning) (modes : List ℕ) : Type 0 where
@@ -31,7 +31,7 @@ pub record Says (m : Meaning) (bs : List ℕ) (p : PlanSaid) : Type 0 where
   pub rows : List (List ℕ)
   pub short : length bs ≤ 65535
   pub places : length queues ≡ m .places
-  pub tops : UpTo (λ k. getD (m .tops) k 0) 0 queues
+  pub tops : UpTo (top-of m) 0 queues
   pub some : 1 ≤ length rows
   pub few : length rows ≤ 64
   pub lawful : All (RowOf m) rows

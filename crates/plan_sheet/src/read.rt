@@ -1,9 +1,8 @@
 // Reading a plan sheet: the section `start` and the section `rows`.
 ghost use mathlib.Core.Path.{_≡_};
-ghost use Prim.Native.Nat.{_≤_};
-ghost use Rattle.std.specs.Vec.{made};
+ghost use Prim.Native.Nat.{_≤_, _<_};
 ghost use Rattle.words.specs.Faults.{told};
-ghost use Rattle.plan_sheet.specs.Plans.{start-at, row-at, rows-at, start-section, rows-section, sections, plan-sheet};
+ghost use Rattle.plan_sheet.specs.Plans.{place-at, start-at, mode-at, row-at, next-row, rows-at, start-section, rows-section, plan-sheet};
 ghost use Rattle.plan_sheet.specs.Says.{Exact};
 ghost use Rattle.plan_sheet.specs.Views.{plan-told};
 use model::Model;
@@ -28,11 +27,10 @@ struct Row {
     end: usize,
 }
 
-// The rows of a plan, how many there are, and where the last of them ended.
+// The rows of a plan, and where the last of them ended.
 #[derive(Clone, Copy)]
 struct Rows {
     table: [[u8; 32]; 64],
-    count: usize,
     end: usize,
 }
 
@@ -43,94 +41,124 @@ pub struct PlanRead {
     pub end: usize,
 }
 
-// A number for each place, from 0 to its top.
-fn start_numbers<M: Model>(model: &M, bytes: &[u8], at: usize) -> Result<Start, SheetFault>
+// One number more: that of place k, counted from 0, from 0 to its top.
+fn next_queue<M: Model>(model: &M, bytes: &[u8], k: usize, start: Start) -> Result<Start, SheetFault>
+    requires { ⌜ k < 64 ⌝ }
+    ensures { λ r. ⌜ told r ≡ place-at (M·Model .meaning (now (model .entry))) (now (bytes .entry)) k start ⌝ }
+{
+    let n = number(bytes, start.end, 0, model.top(k + 1))?;
+    let mut queues = start.queues;
+    queues[k] = n.value;
+    Ok(Start { queues, end: n.end })
+}
+
+// A number for each place.
+fn read_start<M: Model>(model: &M, bytes: &[u8], at: usize) -> Result<Start, SheetFault>
     ensures { λ r. ⌜ told r ≡ start-at (M·Model .meaning (now (model .entry))) (now (bytes .entry)) at ⌝ }
 {
     let places = model.places();
-    let mut queues = [0; 64];
-    let mut end = at;
+    let mut start = Start {
+        queues: [0; 64],
+        end: at,
+    };
     for k in 0..places {
-        let n = number(bytes, end, 0, model.top(k + 1))?;
-        queues[k] = n.value;
-        end = n.end;
+        start = next_queue(model, bytes, k, start)?;
     }
-    Ok(Start { queues, end })
+    Ok(start)
 }
 
-// A mode for each signal, from 0 to 8; at the last one, the row has to be legal.
+// One mode more: that of signal k, counted from 0, from 0 to 8.
+fn next_mode(bytes: &[u8], k: usize, row: Row) -> Result<Row, SheetFault>
+    requires { ⌜ k < 32 ⌝ }
+    ensures { λ r. ⌜ told r ≡ mode-at (now (bytes .entry)) k row ⌝ }
+{
+    let n = number(bytes, row.end, 0, 8)?;
+    let mut modes = row.modes;
+    modes[k] = n.value as u8;
+    Ok(Row {
+        modes,
+        last: n.place,
+        end: n.end,
+    })
+}
+
+// A mode for each signal; at the last one, the row has to be legal.
 fn read_row<M: Model>(model: &M, bytes: &[u8], at: usize) -> Result<Row, SheetFault>
     ensures { λ r. ⌜ told r ≡ row-at (M·Model .meaning (now (model .entry))) (now (bytes .entry)) at ⌝ }
 {
     let signals = model.signals();
-    let mut modes = [0; 32];
-    let mut last = at;
-    let mut end = at;
+    let mut row = Row {
+        modes: [0; 32],
+        last: at,
+        end: at,
+    };
     for k in 0..signals {
-        let n = number(bytes, end, 0, 8)?;
-        modes[k] = n.value as u8;
-        last = n.place;
-        end = n.end;
+        row = next_mode(bytes, k, row)?;
     }
-    if !model.legal(modes) {
-        return Err(SheetFault::OutOfRange(last));
+    if !model.legal(row.modes) {
+        return Err(SheetFault::OutOfRange(row.last));
     }
-    Ok(Row { modes, last, end })
+    Ok(row)
+}
+
+// One row more, numbered k.
+fn next_row<M: Model>(model: &M, bytes: &[u8], k: usize, rows: Rows) -> Result<Rows, SheetFault>
+    requires { ⌜ k < 64 ⌝ }
+    ensures { λ r. ⌜ told r ≡ next-row (M·Model .meaning (now (model .entry))) (now (bytes .entry)) k rows ⌝ }
+{
+    let row = read_row(model, bytes, rows.end)?;
+    let modes = row.modes;
+    let mut table = rows.table;
+    table[k] = modes;
+    Ok(Rows {
+        table,
+        end: row.end,
+    })
 }
 
 // As many rows as are due.
 fn read_rows<M: Model>(model: &M, bytes: &[u8], at: usize, count: usize) -> Result<Rows, SheetFault>
-    requires { ⌜ 1 ≤ count ⌝ ∗ ⌜ count ≤ 64 ⌝ }
-    ensures is { λ r. ⌜ told r ≡ rows-at (M·Model .meaning (now (model .entry))) (now (bytes .entry)) at count ⌝ }
-    ensures within { λ r. ⌜ made r (λ t. (1 ≤ t .count) × (t .count ≤ 64)) ⌝ }
+    requires { ⌜ count ≤ 64 ⌝ }
+    ensures { λ r. ⌜ told r ≡ rows-at (M·Model .meaning (now (model .entry))) (now (bytes .entry)) at count ⌝ }
 {
-    let mut table = [[0; 32]; 64];
-    let mut end = at;
+    let mut rows = Rows {
+        table: [[0; 32]; 64],
+        end: at,
+    };
     for k in 0..count {
-        let row = read_row(model, bytes, end)?;
-        let modes = row.modes;
-        table[k] = modes;
-        end = row.end;
+        rows = next_row(model, bytes, k, rows)?;
     }
-    Ok(Rows { table, count, end })
+    Ok(rows)
 }
 
 // The section `start`: exactly the model's places.
-fn start_section<M: Model>(model: &M, bytes: &[u8], at: usize) -> Result<Start, SheetFault>
-    ensures { λ r. ⌜ told r ≡ start-section (M·Model .meaning (now (model .entry))) (now (bytes .entry)) at ⌝ }
+fn start_section<M: Model>(model: &M, bytes: &[u8]) -> Result<Start, SheetFault>
+    ensures { λ r. ⌜ told r ≡ start-section (M·Model .meaning (now (model .entry))) (now (bytes .entry)) ⌝ }
 {
     let places = model.places() as u32;
-    let named = section(bytes, at, b"start")?;
+    let named = section(bytes, 0, b"start")?;
     let count = number(bytes, named, places, places)?;
-    start_numbers(model, bytes, count.end)
+    read_start(model, bytes, count.end)
 }
 
-// The section `rows`: 1 to 64 rows.
-fn rows_section<M: Model>(model: &M, bytes: &[u8], at: usize) -> Result<Rows, SheetFault>
-    ensures is { λ r. ⌜ told r ≡ rows-section (M·Model .meaning (now (model .entry))) (now (bytes .entry)) at ⌝ }
-    ensures within { λ r. ⌜ made r (λ t. (1 ≤ t .count) × (t .count ≤ 64)) ⌝ }
+// The section `rows`, 1 to 64 rows, after the start: the plan of both.
+fn rows_section<M: Model>(model: &M, bytes: &[u8], start: Start) -> Result<PlanRead, SheetFault>
+    ensures { λ r. ⌜ plan-told r ≡ rows-section (M·Model .meaning (now (model .entry))) (now (bytes .entry)) start ⌝ }
 {
-    let named = section(bytes, at, b"rows")?;
-    let count = number(bytes, named, 1, 64)?;
-    read_rows(model, bytes, count.end, count.value as usize)
-}
-
-// The two sections, one after the other.
-fn both_sections<M: Model>(model: &M, bytes: &[u8]) -> Result<PlanRead, SheetFault>
-    ensures { λ r. ⌜ plan-told r ≡ sections (M·Model .meaning (now (model .entry))) (now (bytes .entry)) ⌝ }
-{
-    let start = start_section(model, bytes, 0)?;
-    let rows = rows_section(model, bytes, start.end)?;
+    let named = section(bytes, start.end, b"rows")?;
+    let due = number(bytes, named, 1, 64)?;
+    let count = due.value as usize;
+    let read = read_rows(model, bytes, due.end, count)?;
     let queues = start.queues;
-    let table = rows.table;
+    let table = read.table;
     let plan = Plan {
         start: queues,
         rows: table,
-        count: rows.count,
+        count,
     };
     Ok(PlanRead {
         plan,
-        end: rows.end,
+        end: read.end,
     })
 }
 
@@ -140,5 +168,6 @@ pub fn read_plan<M: Model>(model: &M, bytes: &[u8]) -> Result<PlanRead, SheetFau
     ensures exact { λ r. ⌜ Exact (M·Model .meaning (now (model .entry))) (now (bytes .entry)) (plan-told r) ⌝ }
 {
     short_enough(bytes)?;
-    both_sections(model, bytes)
+    let start = start_section(model, bytes)?;
+    rows_section(model, bytes, start)
 }

@@ -1,9 +1,10 @@
 // A network is a model.
 ghost use mathlib.Core.Path.{_≡_};
+ghost use lib.ListN.{replicate};
 ghost use Rattle.std.specs.Of.Vec.{vec-items};
-ghost use Rattle.model.specs.Model.{lit};
+ghost use Rattle.model.specs.Model.{lit, stepped};
 ghost use Rattle.network.specs.Code.{roads};
-ghost use Rattle.network.specs.Network.{network};
+ghost use Rattle.network.specs.Network.{network, Clear-where-flows};
 use super::Network;
 use super::held::lowest_held;
 use model::Model;
@@ -11,12 +12,19 @@ use model::Step;
 use model::states::capped_by;
 use model::states::fits_modes;
 
+// Mode 0 at every junction.
+fn all_red() -> [u8; 32]
+    ensures { λ r. ⌜ r ≡ replicate 32 0 ⌝ }
+{
+    [0; 32]
+}
+
 impl Network {
-    // The row that counts: the dark row in place of an illegal one.
+    // The row that counts: all red in place of an illegal one.
     pub(super) fn lit(&self, row: [u8; 32]) -> [u8; 32]
         ensures { λ r. ⌜ r ≡ lit (vec-items (now (self .entry) .phases)) row ⌝ }
     {
-        if self.legal(row) { row } else { self.dark() }
+        if self.legal(row) { row } else { all_red() }
     }
 }
 
@@ -32,20 +40,16 @@ pub impl Model for Network as NetworkModel {
     }
 
     fn top(&self, place: usize) -> u32 {
-        let count = self.links.len();
-        if place == 0 || count < place {
-            0
-        } else {
-            self.link_at(place - 1).top
+        match self.link_of(place) {
+            Some(link) => link.top,
+            None => 0,
         }
     }
 
     fn load(&self, place: usize) -> u32 {
-        let count = self.links.len();
-        if place == 0 || count < place {
-            0
-        } else {
-            self.link_at(place - 1).load
+        match self.link_of(place) {
+            Some(link) => link.load,
+            None => 0,
         }
     }
 
@@ -54,10 +58,14 @@ pub impl Model for Network as NetworkModel {
     }
 
     fn dark(&self) -> [u8; 32] {
-        [0; 32]
+        all_red()
     }
 
-    fn step(&self, row: [u8; 32], state: [u32; 64], arrivals: [u32; 64]) -> Step {
+    // Clear exactly where each link lets out its wish and no top cuts a queue off.
+    fn step(&self, row: [u8; 32], state: [u32; 64], arrivals: [u32; 64]) -> Step
+        ensures { λ r. ⌜ r ≡ stepped (network (roads (now (self .entry)))) row state arrivals ⌝ }
+        ensures { λ r. ⌜ Clear-where-flows (roads (now (self .entry))) row state arrivals (r .answer) ⌝ }
+    {
         let tops = self.tops();
         let queues = capped_by(&tops, &state);
         let coming = capped_by(&self.loads(), &arrivals);
@@ -65,7 +73,7 @@ pub impl Model for Network as NetworkModel {
         let out = self.releases(&wishes, &queues);
         let amounts = self.amounts(&out, &queues, &coming);
         let next = capped_by(&tops, &amounts);
-        let answer = lowest_held(self.links.len(), &wishes, &out, &amounts, &tops);
+        let answer = lowest_held(self.places(), &wishes, &out, &amounts, &tops);
         Step { next, answer }
     }
 }

@@ -1,13 +1,15 @@
 // The parts of a step: wishes, releases and amounts, all from the queues before it.
 ghost use mathlib.Core.Path.{_≡_};
 ghost use mathlib.Core.Bool.{true};
-ghost use Prim.Native.Nat.{ℕ, _+_, _-_, _*_, _/_, _%_, _^_, _<_, _≤_, min};
-ghost use lib.ListN.{length, getD, set};
+ghost use Prim.Native.Nat.{ℕ, _<_, _≤_};
+ghost use lib.ListN.{length, getD};
 ghost use Rattle.std.specs.Of.Vec.{vec-items};
+ghost use Rattle.std.specs.Options.{Cases as BySome};
 ghost use Rattle.model.specs.State.{fits-row};
 ghost use Rattle.network.specs.Sound.{Link-ok, Turn-ok};
 ghost use Rattle.network.specs.Code.{roads};
-ghost use Rattle.network.specs.Network.{link, tops, loads, green, wish, wishes, room, passage, eased, turned-into, inflow, amount, amounts, Ready};
+ghost use Rattle.network.specs.Network.{link, tops, loads, green, wish, wishes, room, passage, turned-into, inflow, amount, amounts};
+ghost use Rattle.network.specs.Parts.{Numbers-of, None-of, eased-by, eased, Ready};
 use super::Network;
 use crate::links::Link;
 use crate::links::Turn;
@@ -20,6 +22,17 @@ impl Network {
         ensures sound { λ r. ⌜ Link-ok (length (vec-items (now (self .entry) .phases))) r ⌝ }
     {
         self.links[k]
+    }
+
+    // The link of a place, counted from 1.
+    pub(super) fn link_of(&self, place: usize) -> Option<Link>
+        ensures { λ r. ⌜ BySome r (None-of (roads (now (self .entry))) place) (Numbers-of (roads (now (self .entry))) place) ⌝ }
+    {
+        let count = self.links.len();
+        if place < 1 || place > count {
+            return None;
+        }
+        Some(self.link_at(place - 1))
     }
 
     // The top of each link.
@@ -93,13 +106,21 @@ impl Network {
         self.link_at(t.to - 1).top.saturating_sub(queues[t.to - 1])
     }
 
+    // The most that the turn has room for.
+    fn passage(&self, queues: &[u32; 64], t: &Turn) -> u32
+        requires { ⌜ Turn-ok (length (vec-items (now self .links))) (now t) ⌝ }
+        ensures { λ r. ⌜ r ≡ passage (roads (now (self .entry))) (now (queues .entry)) (now (t .entry)) ⌝ }
+    {
+        t.supply * self.room_for(queues, t) / t.share
+    }
+
     // Lets the link that the turn leaves release no more than the turn has room for.
     fn tighten(&self, queues: &[u32; 64], out: &mut [u32; 64], t: &Turn)
         requires { ⌜ Turn-ok (length (vec-items (now self .links))) (now t) ⌝ }
-        ensures { λ _. ⌜ now (out .exit) ≡ set (now (out .entry)) (now (t .entry) .from - 1) (min (getD (now (out .entry)) (now (t .entry) .from - 1) 0) (passage (roads (now (self .entry))) (now (queues .entry)) (now (t .entry)))) ⌝ }
+        ensures { λ _. ⌜ now (out .exit) ≡ eased-by (roads (now (self .entry))) (now (queues .entry)) (now (t .entry)) (now (out .entry)) ⌝ }
     {
         let from = t.from - 1;
-        out[from] = out[from].min(t.supply * self.room_for(queues, t) / t.share);
+        out[from] = out[from].min(self.passage(queues, t));
     }
 
     // What each link lets out of what it asks for: less where a turn has no room for it.
@@ -120,8 +141,7 @@ impl Network {
         requires inside { ⌜ k < length (vec-items (now self .links)) ⌝ }
         requires sound { ⌜ Turn-ok (length (vec-items (now self .links))) (now t) ⌝ }
         requires small { ⌜ ((j : ℕ) → getD (now out) j 0 ≤ 100000) ⌝ }
-        ensures value { λ r. ⌜ r ≡ turned-into (now (out .entry)) k (now (t .entry)) ⌝ }
-        ensures small { λ r. ⌜ r ≤ 100000 ⌝ }
+        ensures { λ r. ⌜ r ≡ turned-into (now (out .entry)) k (now (t .entry)) ⌝ }
     {
         if t.to == k + 1 {
             t.share * out[t.from - 1] / 1000
@@ -134,8 +154,7 @@ impl Network {
     fn inflow_of(&self, out: &[u32; 64], k: usize) -> u32
         requires inside { ⌜ k < length (vec-items (now self .links)) ⌝ }
         requires small { ⌜ ((j : ℕ) → getD (now out) j 0 ≤ 100000) ⌝ }
-        ensures value { λ r. ⌜ r ≡ inflow (roads (now (self .entry))) (now (out .entry)) k ⌝ }
-        ensures small { λ r. ⌜ r ≤ 25600000 ⌝ }
+        ensures { λ r. ⌜ r ≡ inflow (roads (now (self .entry))) (now (out .entry)) k ⌝ }
     {
         let mut sum = 0;
         for t in self.turns.as_slice() {

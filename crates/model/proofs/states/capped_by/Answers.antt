@@ -10,8 +10,8 @@ loop-k-holds c = filled-none _
 
 pub loop-k-again : need.loop-k-again
 loop-k-again c =
-    filled-more (λ j. min (getD (c .args .state .now) j 0) (getD (c .args .bounds .now) j 0)) (c .loop-k .k) (c .loop-k .out) (c .min .result)
-    (omega arith) (omega arith) (c .loop-k .inv)
+    filled-more (λ j. min (getD (c .args .state .now) j 0) (getD (c .args .bounds .now) j 0)) (c .loop-k .k) (c .loop-k .out) (c .at-most .result)
+    (omega arith) (c .at-most .ensures) (c .loop-k .inv)
 
 pub returns : need.returns
 unfolding capped

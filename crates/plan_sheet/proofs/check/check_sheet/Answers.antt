@@ -13,18 +13,9 @@ returns-in-Break-read g c =
       accepts = says-none _ _ _ _ (c .in-Break-read .ensures tt .exact);
     })
 
-pub returns-in-Break-check : need.returns-in-Break-check
-returns-in-Break-check g c =
-    let p = err-from-errBy (c .from-residual-in-Break-check .result) (c .from-residual-in-Break-check .ensures .1) in
-    rw (p .1, p .2)
-    (record {
-      is = c .in-Break-check .ensures tt .is ∙ sym (then-ok _ (sym (c .in-Continue-read .ensures tt .is)));
-      accepts = says-one _ _ _ _ _ (c .in-Continue-read .ensures tt .exact) (c .in-Break-check .ensures tt .holds);
-    })
-
 pub returns : need.returns
 returns g c =
     record {
-      is = c .in-Continue-check .ensures tt .is ∙ sym (then-ok _ (sym (c .in-Continue-read .ensures tt .is)));
-      accepts = says-one _ _ _ _ _ (c .in-Continue-read .ensures tt .exact) (c .in-Continue-check .ensures tt .holds);
+      is = c .check-plan .ensures ∙ sym (then-ok _ (sym (c .in-Continue-read .ensures tt .is)));
+      accepts = says-one _ _ _ (g .M·Model·met .lawful (c .args .model .now)) _ _ (c .in-Continue-read .ensures tt .exact) (c .check-plan .ensures);
     }

@@ -5,6 +5,4 @@ use Rattle.plan_sheet.specs.Plans.{mode-at, modes-at}
 use Rattle.plan_sheet.proofs.read.read_row.Given as given
 
 abbrev pub Inv-loop-k : given.InvT-loop-k
-Inv-loop-k g l =
-    turns (mode-at (l .bytes)) (l .signals - l .k) (l .k) (record { modes = l .modes; last = l .last; end = l .end })
-    ≡ modes-at (g .M·Model .meaning (l .model)) (l .bytes) (l .at)
+Inv-loop-k g l = turns (mode-at (l .bytes)) (l .signals - l .k) (l .k) (l .row) ≡ modes-at (g .M·Model .meaning (l .model)) (l .bytes) (l .at)

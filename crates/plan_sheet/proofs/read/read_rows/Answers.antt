@@ -1,12 +1,12 @@
-use mathlib.Core.Path.{refl}
+use mathlib.Core.Path.{sym, _∙_}
 use Rattle.std.proofs.shelf.Results.{err-from-errBy}
-use Rattle.refusal.proofs.Turning.{goes-on, breaks-off}
+use Rattle.refusal.proofs.Turning.{turns-more, turns-stop}
 use Rattle.plan_sheet.proofs.read.read_rows.Needs as need
 
-pub returns-in-Break-row : need.returns-in-Break-row
-returns-in-Break-row g c =
+pub returns-in-Break-rows : need.returns-in-Break-rows
+returns-in-Break-rows g c =
     let p = err-from-errBy (c .from-residual .result) (c .from-residual .ensures .1) in
-    rw (p .1, p .2) (record { is = breaks-off _ _ _ _ _ (c .loop-k .inv) (c .loop-k-test .taken) _ (c .in-Break-row .ensures tt) refl; within = tt })
+    rw (p .1, p .2) (sym (turns-stop _ _ _ _ _ (c .loop-k-test .taken) (sym (c .in-Break-rows .ensures tt))) ∙ c .loop-k .inv)
 
 pub loop-k-again : need.loop-k-again
-loop-k-again g c = goes-on _ _ _ _ _ (c .loop-k .inv) (c .loop-k-test .taken) _ _ (c .in-Continue-row .ensures tt) refl refl
+loop-k-again g c = sym (turns-more _ _ _ _ _ (c .loop-k-test .taken) (sym (c .in-Continue-rows .ensures tt))) ∙ c .loop-k .inv

@@ -5,6 +5,4 @@ use Rattle.plan_sheet.specs.Plans.{next-row, rows-at}
 use Rattle.plan_sheet.proofs.read.read_rows.Given as given
 
 abbrev pub Inv-loop-k : given.InvT-loop-k
-Inv-loop-k g l =
-    turns (next-row (g .M·Model .meaning (l .model)) (l .bytes)) (l .count - l .k) (l .k) (record { table = l .table; count = l .count; end = l .end })
-    ≡ rows-at (g .M·Model .meaning (l .model)) (l .bytes) (l .at) (l .count)
+Inv-loop-k g l = turns (next-row (g .M·Model .meaning (l .model)) (l .bytes)) (l .count - l .k) (l .k) (l .rows) ≡ rows-at (g .M·Model .meaning (l .model)) (l .bytes) (l .at) (l .count)

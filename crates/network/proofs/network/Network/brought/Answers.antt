@@ -1,7 +1,5 @@
-use mathlib.Core.Path.{_≡_}
-use Prim.Native.Nat.{_-_, _*_, _/_, _≤_}
+use Prim.Native.Nat.{_-_}
 use native.Mathlib.Omega.{arith}
-use borrow.Author.Needs.{needs}
 use lib.ListN.{getD}
 use Rattle.network.proofs.Bounds.{product-small}
 use Rattle.network.proofs.network.Network.brought.Needs as need
@@ -10,11 +8,3 @@ pub mul-result : need.mul-result
 mul-result c =
     let j = c .args .t .now .from - 1 in
     omega (arith, product-small (c .args .t .now .share) (getD (c .args .out .now) j 0) (c .pre .sound .2 .1) (c .pre .small j))
-
-pub returns-then-t-k : need.returns-then-t-k
-returns-then-t-k c =
-    let j = c .args .t .now .from - 1 in
-    record {
-      value = search needs;
-      small = omega (arith, product-small (c .args .t .now .share) (getD (c .args .out .now) j 0) (c .pre .sound .2 .1) (c .pre .small j));
-    }

@@ -1,5 +1,5 @@
-use mathlib.Core.Path.{_≡_, sym, subst}
-use lib.ListN.{length, getD}
+use mathlib.Core.Path.{sym, subst}
+use lib.ListN.{length}
 use Rattle.std.specs.Of.Vec.{vec-items}
 use Rattle.std.proofs.shelf.Lists.{getD-read}
 use Rattle.network.specs.Sound.{no-link, Link-ok}

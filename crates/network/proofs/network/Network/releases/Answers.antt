@@ -1,13 +1,11 @@
-use mathlib.Core.Path.{_≡_, refl}
+use mathlib.Core.Path.{refl}
 use Prim.Native.Nat.{_<_}
 use native.Mathlib.Omega.{arith}
-use lib.ListN.{length, getD, take}
-use Rattle.std.specs.Iters.{folded}
+use lib.ListN.{length}
 use Rattle.std.proofs.shelf.Lists.{take-all}
-use Rattle.model.specs.State.{whole}
 use Rattle.model.proofs.State.{whole-is}
 use Rattle.network.specs.Code.{roads}
-use Rattle.network.specs.Network.{eased, tightened}
+use Rattle.network.specs.Parts.{eased}
 use Rattle.network.proofs.Easing.{eased-more}
 use Rattle.network.proofs.Ranges.{sound}
 use Rattle.network.proofs.network.Network.releases.Needs as need

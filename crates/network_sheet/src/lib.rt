@@ -1,0 +1,3 @@
+// Network sheets: the signals, links, turns and limits that a sheet says.
+pub mod link;
+pub mod turn;

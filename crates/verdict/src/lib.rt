@@ -1,0 +1,2 @@
+// The verdict on an input, in one line.
+pub mod verdict;
