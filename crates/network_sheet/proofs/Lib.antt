@@ -1,2 +1,7 @@
 mod Masks
 mod Steps
+mod Asked
+mod LinkExact
+mod TurnExact
+mod Ranges
+mod Whole

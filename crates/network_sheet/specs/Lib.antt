@@ -1,2 +1,4 @@
 pub mod Links
 pub mod Turns
+pub mod Network
+pub mod Says

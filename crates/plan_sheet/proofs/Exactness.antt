@@ -25,7 +25,7 @@ use Rattle.plan_sheet.specs.declared.read.Start.{Start}
 use Rattle.plan_sheet.specs.declared.read.Row.{Row}
 use Rattle.plan_sheet.specs.declared.read.Rows.{Rows}
 use Rattle.plan_sheet.specs.Plans.{PlanSaid, top-of, place-at, start-at, mode-at, modes-at, legal-only, row-at, next-row, rows-at, start-section, with-rows, rows-section, plan-sheet}
-use Rattle.plan_sheet.specs.Says.{RowOf, Says, Exact}
+use Rattle.plan_sheet.specs.Says.{RowOf, start-words, rows-words, row-table, Says, Exact}
 
 module _ (m : Meaning) (bs : List ℕ) where
   abbrev start-fills : Fills Start bs (top-of m) (place-at m bs)
@@ -92,12 +92,6 @@ module _ (m : Meaning) (bs : List ℕ) where
       let r = rows-read rs (k + 1) u to (l .1) (subst (λ a. Spelled bs a (joined (map decimal) rs) to) (sym (d .2)) (p .2)) in
       (r .0, then-ok (turns (next-row m bs) (length rs) (k + 1)) got ∙ r .1, r .2, r .3 ∙ ap (λ x. written (set (s .table) k x) (k + 1) (map (tabled 32) rs)) (d .3))
 
-  abbrev start-words : List ℕ → List (List ℕ)
-  start-words queues = codes "start" ∷ decimal (length queues) ∷ map decimal queues
-
-  abbrev rows-words : List (List ℕ) → List (List ℕ)
-  rows-words rows = codes "rows" ∷ decimal (length rows) ∷ joined (map decimal) rows
-
   record Start-said (s : Start) : Type 0 where
     queues : List ℕ
     long : length queues ≡ m .places
@@ -140,7 +134,7 @@ module _ (m : Meaning) (bs : List ℕ) where
     lawful : All (RowOf m) rows
     spelled : Spelled bs (s .end) (rows-words rows) (p .end)
     start : p .start ≡ s .queues
-    table : p .rows ≡ written (replicate 64 (replicate 32 0)) 0 (map (tabled 32) rows)
+    table : p .rows ≡ row-table rows
     count : p .count ≡ length rows
 
   section-said : (s : Start) (p : PlanSaid) → rows-section m bs s ≡ Ok p → Section-said s p
@@ -160,13 +154,15 @@ module _ (m : Meaning) (bs : List ℕ) where
         count = sym (d .long);
       })
 
-  section-back : (s : Start) (rs : List (List ℕ)) (to : ℕ) → 1 ≤ length rs → length rs ≤ 64 → All (RowOf m) rs → Spelled bs (s .end) (rows-words rs) to → rows-section m bs s ≡ Ok (record { start = s .queues; rows = written (replicate 64 (replicate 32 0)) 0 (map (tabled 32) rs); count = length rs; end = to })
+  section-back : (s : Start) (rs : List (List ℕ)) (to : ℕ) → 1 ≤ length rs → length rs ≤ 64 → All (RowOf m) rs → Spelled bs (s .end) (rows-words rs) to → rows-section m bs s ≡ Ok (record { start = s .queues; rows = row-table rs; count = length rs; end = to })
   section-back s rs to some few lawful h =
       let a : ℕ = h .0 in
       let rest = h .2 in
       let d = rows-read rs 0 (record { table = replicate 64 (replicate 32 0); end = rest .0 }) to lawful (rest .2) in
       let named : section-at bs (s .end) (codes "rows") ≡ Ok a = section-read bs (s .end) (codes "rows") a refl (h .1) in
-      let is : record { start = s .queues; rows = d .0 .table; count = length rs; end = d .0 .end } ≡ record { start = s .queues; rows = written (replicate 64 (replicate 32 0)) 0 (map (tabled 32) rs); count = length rs; end = to } = λ i. record { start = s .queues; rows = (d .3) i; count = length rs; end = (d .2) i } in
+      let read : PlanSaid = record { start = s .queues; rows = d .0 .table; count = length rs; end = d .0 .end } in
+      let said : PlanSaid = record { start = s .queues; rows = row-table rs; count = length rs; end = to } in
+      let is : read ≡ said = λ i. record { start = s .queues; rows = (d .3) i; count = length rs; end = (d .2) i } in
       then-ok _ named
       ∙ found bs a 1 64 (length rs) (rest .0) (λ n. with-rows m bs s (n .end) (n .value)) (rest .1) some few (omega arith)
       ∙ then-ok _ (d .1)
@@ -197,7 +193,8 @@ module _ (m : Meaning) (bs : List ℕ) where
       let w = spelled-split bs (start-words (s .queues)) (rows-words (s .rows)) 0 (p .end) (s .words) in
       let a = start-read b (s .queues) (w .0) (s .places) (s .tops) (w .1) in
       let after : Spelled bs (a .0 .end) (rows-words (s .rows)) (p .end) = subst (λ e. Spelled bs e (rows-words (s .rows)) (p .end)) (sym (a .2)) (w .2) in
-      let is : record { start = a .0 .queues; rows = written (replicate 64 (replicate 32 0)) 0 (map (tabled 32) (s .rows)); count = length (s .rows); end = p .end } ≡ p = λ i. record { start = (a .3 ∙ sym (s .start)) i; rows = sym (s .table) i; count = sym (s .count) i; end = p .end } in
+      let read : PlanSaid = record { start = a .0 .queues; rows = row-table (s .rows); count = length (s .rows); end = p .end } in
+      let is : read ≡ p = λ i. record { start = (a .3 ∙ sym (s .start)) i; rows = sym (s .table) i; count = sym (s .count) i; end = p .end } in
       then-ok (rows-section m bs) (a .1) ∙ section-back (a .0) (s .rows) (p .end) (s .some) (s .few) (s .lawful) after ∙ ap Ok is
 
   pub exactly : Lawful m → Exact m bs (plan-sheet m bs)

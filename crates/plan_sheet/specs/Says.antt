@@ -21,9 +21,16 @@ pub record RowOf (m : Meaning) (modes : List ℕ) : Type 0 where
   pub within : UpTo (λ _. 8) 0 modes
   pub legal : m .legal (tabled 32 modes) ≡ true
 
--- the words of a plan: each section word, its count and its records
-abbrev pub plan-text : List ℕ → List (List ℕ) → List (List ℕ)
-plan-text queues rows = codes "start" ∷ decimal (length queues) ∷ (map decimal queues ++ (codes "rows" ∷ decimal (length rows) ∷ joined (map decimal) rows))
+-- the words of each section: the section word, its count and its records
+abbrev pub start-words : List ℕ → List (List ℕ)
+start-words queues = codes "start" ∷ decimal (length queues) ∷ map decimal queues
+
+abbrev pub rows-words : List (List ℕ) → List (List ℕ)
+rows-words rows = codes "rows" ∷ decimal (length rows) ∷ joined (map decimal) rows
+
+-- the rows as a table of 64, with zeros beyond the last mode and the last row
+abbrev pub row-table : List (List ℕ) → List (List ℕ)
+row-table rows = written (replicate 64 (replicate 32 0)) 0 (map (tabled 32) rows)
 
 -- the sheet's first words are those of a plan for the model, and p is that plan
 pub record Says (m : Meaning) (bs : List ℕ) (p : PlanSaid) : Type 0 where
@@ -35,9 +42,9 @@ pub record Says (m : Meaning) (bs : List ℕ) (p : PlanSaid) : Type 0 where
   pub some : 1 ≤ length rows
   pub few : length rows ≤ 64
   pub lawful : All (RowOf m) rows
-  pub words : Spelled bs 0 (plan-text queues rows) (p .end)
+  pub words : Spelled bs 0 (start-words queues ++ rows-words rows) (p .end)
   pub start : p .start ≡ tabled 64 queues
-  pub table : p .rows ≡ written (replicate 64 (replicate 32 0)) 0 (map (tabled 32) rows)
+  pub table : p .rows ≡ row-table rows
   pub count : p .count ≡ length rows
 
 -- accepted as p exactly where the sheet says p

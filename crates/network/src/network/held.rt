@@ -7,7 +7,13 @@ use model::Answer;
 use model::Cause;
 
 // Whether the link after k others is held: blocked, or else cut off at its top.
-fn verdict_at(wishes: &[u32; 64], out: &[u32; 64], amounts: &[u32; 64], tops: &[u32; 64], k: usize) -> Answer
+fn verdict_at(
+    wishes: &[u32; 64],
+    out: &[u32; 64],
+    amounts: &[u32; 64],
+    tops: &[u32; 64],
+    k: usize,
+) -> Answer
     requires { ⌜ k < 64 ⌝ }
     ensures { λ r. ⌜ r ≡ verdict-at (now (wishes .entry)) (now (out .entry)) (now (amounts .entry)) (now (tops .entry)) k ⌝ }
 {

@@ -144,7 +144,8 @@ impl Network {
         ensures { λ r. ⌜ r ≡ turned-into (now (out .entry)) k (now (t .entry)) ⌝ }
     {
         if t.to == k + 1 {
-            t.share * out[t.from - 1] / 1000
+            let thousandths = t.share * out[t.from - 1];
+            thousandths / 1000
         } else {
             0
         }
@@ -173,7 +174,12 @@ impl Network {
     }
 
     // The amount of each link.
-    pub(super) fn amounts(&self, out: &[u32; 64], queues: &[u32; 64], arrivals: &[u32; 64]) -> [u32; 64]
+    pub(super) fn amounts(
+        &self,
+        out: &[u32; 64],
+        queues: &[u32; 64],
+        arrivals: &[u32; 64],
+    ) -> [u32; 64]
         requires { ⌜ Ready (roads (now self)) (now out) (now queues) (now arrivals) ⌝ }
         ensures { λ r. ⌜ r ≡ amounts (roads (now (self .entry))) (now (out .entry)) (now (queues .entry)) (now (arrivals .entry)) ⌝ }
     {

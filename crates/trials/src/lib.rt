@@ -1,0 +1,3 @@
+// Trials of the whole way from a sheet to its verdict.
+#[cfg(test)]
+mod tests;
