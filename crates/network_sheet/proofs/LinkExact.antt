@@ -8,7 +8,6 @@ use Rattle.std.proofs.shelf.Tests.{cond-true, cond-false, ltb-true, lt-ltb, eqb
 use Rattle.std.specs.declared.result.Result.the-variants.{Ok}
 use Rattle.refusal.proofs.Turning.{then-parts, then-ok, ok-same}
 use Rattle.words.specs.Numbers.{name-at}
-use Rattle.words.specs.Tables.{tabled}
 use Rattle.words.proofs.Due.{due, found, name-stands, name-read}
 use Rattle.records.specs.declared.Recorded.{Recorded}
 use Rattle.records.proofs.Exactness.{Exact}

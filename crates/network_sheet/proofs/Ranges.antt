@@ -24,21 +24,22 @@ said-all R P each before at [] to s = tt
 said-all R P each before at (x ∷ xs) to s =
     (each before at x (s .0) (s .1), said-all R P each (before ++ (x ∷ [])) (s .0) xs to (s .2))
 
-pub phases-ok : (bs : List ℕ) (at : ℕ) {t : Items ℕ} → Ok t ≡ signals-section bs at → Phases-ok (t .items)
-phases-ok bs at {t} h =
-    let s = section-stands-as (signal-at bs) (Signal-said bs) (signal-exact bs) bs (codes "signals") at 1 32 t (sym h) in
+pub phases-ok : (bs : List ℕ) {t : Items ℕ} → Ok t ≡ signals-section bs 0 → Phases-ok (t .items)
+phases-ok bs {t} h =
+    let s = section-stands-as (signal-at bs) (Signal-said bs) (signal-exact bs) bs (codes "signals") 0 1 32 t (sym h) in
     let P : ℕ → Type 0 = λ p. (1 ≤ p) × (p ≤ 8) in
     (s .enough, s .few, λ k l. all-getD P (t .items) k 0 l (said-all (Signal-said bs) P (λ _ _ _ _ w. (w .some, w .few)) [] (s .counted) (t .items) (t .end) (s .records)))
 
--- the links that were read beside a slice of the phases
-pub links-ok : (bs : List ℕ) (at : ℕ) {slice phases : List ℕ} {t : Items Link} → slice ≡ phases → length phases ≤ 32 → Ok t ≡ links-section bs slice at → (1 ≤ length (t .items)) × (length (t .items) ≤ 64) × Links-ok (length phases) (t .items)
-links-ok bs at {phases = phases} {t} same few h =
+-- the links that were read beside a slice of the phases before them
+pub links-ok : (bs : List ℕ) {p : Items ℕ} {slice : List ℕ} {t : Items Link} → Ok p ≡ signals-section bs 0 → slice ≡ p .items → Ok t ≡ links-section bs slice (p .end) → (1 ≤ length (t .items)) × (length (t .items) ≤ 64) × Links-ok (length (p .items)) (t .items)
+links-ok bs {p} {t = t} before same h =
+    let phases : List ℕ = p .items in
     let n : ℕ = length phases in
-    let s = section-stands-as (link-at bs phases n) (Link-said bs phases n) (link-exact bs phases n few) bs (codes "links") at 1 64 t (sym (h ∙ ap (λ ps. links-section bs ps at) same)) in
+    let s = section-stands-as (link-at bs phases n) (Link-said bs phases n) (link-exact bs phases n (phases-ok bs before .1)) bs (codes "links") (p .end) 1 64 t (sym (h ∙ ap (λ ps. links-section bs ps (p .end)) same)) in
     let each : (before : List Link) (at : ℕ) (l : Link) (to : ℕ) → Link-said bs phases n before at l to → Link-ok n l = λ _ _ _ _ w. let g = w .good in ((g .tail, g .some-head, g .head), (g .some-top, g .top), (g .flow, g .load)) in
     (s .enough, s .few, λ k l. all-getD (Link-ok n) (t .items) k no-link l (said-all (Link-said bs phases n) (Link-ok n) each [] (s .counted) (t .items) (t .end) (s .records)))
 
--- the turns that were read beside a slice of the links
+-- the turns that were read beside a slice of the links before them
 pub turns-ok : (bs : List ℕ) (at : ℕ) {slice links : List Link} {t : Items Turn} → slice ≡ links → length links ≤ 64 → Ok t ≡ turns-section bs slice at → (length (t .items) ≤ 256) × Turns-ok (length links) (t .items)
 turns-ok bs at {links = links} {t} same few h =
     let n : ℕ = length links in

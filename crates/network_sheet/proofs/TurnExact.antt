@@ -1,9 +1,9 @@
 -- A turn is read exactly where its words stand and it fits to those before it.
-use mathlib.Core.Path.{_≡_, refl, sym, ap, subst, _∙_}
-use mathlib.Core.Bool.{true, false}
+use mathlib.Core.Path.{_≡_, refl, ap, subst, _∙_}
+use mathlib.Core.Bool.{false}
 use mathlib.Core.Logic.{⊎-elim}
 use mathlib.Core.List.{List, [], _∷_}
-use Prim.Native.Nat.{ℕ, _+_, _≤_, _<_}
+use Prim.Native.Nat.{ℕ, _+_, _≤_}
 use native.Mathlib.Omega.{arith}
 use lib.Dec.{eqb, leb}
 use Rattle.std.specs.shelf.Lists.{sumBy, All}
@@ -18,7 +18,7 @@ use Rattle.model.proofs.State.{every-at, every-from}
 use Rattle.network.specs.declared.links.Link.{Link}
 use Rattle.network.specs.declared.links.Turn.{Turn}
 use Rattle.network.specs.Network.{joins}
-use Rattle.network_sheet.specs.Turns.{numbered, goes-on, given-in, share-from, supply-into, within-supply, has-room, fits-turns, turn-at, Turn-fits, Turn-said}
+use Rattle.network_sheet.specs.Turns.{numbered, goes-on, given-in, share-from, within-supply, has-room, fits-turns, turn-at, Turn-fits, Turn-said}
 use Rattle.network_sheet.proofs.Asked.{passed, passed-not}
 
 -- no turn has the pair of t

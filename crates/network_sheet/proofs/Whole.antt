@@ -1,15 +1,13 @@
 -- A whole network sheet is read exactly where it stands.
 use mathlib.Core.Path.{_≡_, refl, sym, ap, subst, _∙_}
-use mathlib.Core.Logic.{_⊎_, inl, inr}
+use mathlib.Core.Logic.{inl, inr}
 use mathlib.Core.List.{List}
 use Prim.Native.Nat.{ℕ}
 use native.Mathlib.Omega.{arith}
 use lib.Chars.{codes}
 use lib.ListN.{length}
-use Rattle.std.specs.Of.Vec.{vec-items}
 use Rattle.std.specs.declared.result.Result.{Result}
 use Rattle.std.specs.declared.result.Result.the-variants.{Ok, Err}
-use Rattle.refusal.specs.Questions.{Told}
 use Rattle.refusal.proofs.Turning.{then-parts, then-ok, ok-same}
 use Rattle.words.specs.Words.{short-sheet}
 use Rattle.words.proofs.Due.{short-stands, short-read}
@@ -25,7 +23,7 @@ use Rattle.network_sheet.specs.declared.read.NetworkRead.{NetworkRead}
 use Rattle.network_sheet.specs.Links.{signal-at, link-at, Signal-said, Link-said}
 use Rattle.network_sheet.specs.Turns.{turn-at, Turn-said}
 use Rattle.network_sheet.specs.Network.{signals-section, links-section, turns-section, limits-section, Content, content, sections, network-sheet, Network-as}
-use Rattle.network_sheet.specs.Says.{Says, Read-as, Exactly}
+use Rattle.network_sheet.specs.Says.{Says, Exactly}
 use Rattle.network_sheet.proofs.LinkExact.{signal-exact, link-exact}
 use Rattle.network_sheet.proofs.TurnExact.{turn-exact}
 

@@ -64,7 +64,7 @@ pub record Link-of (phases : List ℕ) (signals : ℕ) (l : Link) : Type 0 where
   pub differ : l .tail ≡ l .head → ⊥
   pub own-phases : l .mask < 2 ^ phases-of phases (l .head)
 
--- the words from place `at` to `to` are those of the link l
+-- the words from place `at` to `to` are those of the link l. Names need not differ: links of equal words are still two links
 pub record Link-said (bs phases : List ℕ) (signals : ℕ) (before : List Link) (at : ℕ) (l : Link) (to : ℕ) : Type 0 where
   pub name : List ℕ
   pub short : length name ≤ 8

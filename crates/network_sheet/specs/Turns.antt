@@ -40,7 +40,7 @@ given-in from to (t ∷ ts) = joins t from to || given-in from to ts
 abbrev pub share-from : ℕ → Turn → ℕ
 share-from from t = cond (eqb (t .from) from) (t .share) 0
 
--- what the turn adds to the supplies into the link `to` over links that are green in the phase
+-- what the turn adds to the supplies into the link `to` in the phase: nothing where its own link is red then
 abbrev pub supply-into : List Link → ℕ → ℕ → Turn → ℕ
 supply-into links phase to t = cond (eqb (t .to) to && green-in phase (numbered links (t .from))) (t .supply) 0
 

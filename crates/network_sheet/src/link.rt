@@ -20,12 +20,7 @@ pub impl Record for SignalRecord as SignalIsRecord {
 
     ghost reads = { λ _ bs. signal-at bs };
 
-    fn read(
-        &self,
-        bytes: &[u8],
-        at: usize,
-        before: &[u8],
-    ) -> Result<Recorded<u8>, SheetFault> {
+    fn read(&self, bytes: &[u8], at: usize, before: &[u8]) -> Result<Recorded<u8>, SheetFault> {
         let phases = number(bytes, at, 1, 8)?;
         Ok(Recorded {
             item: phases.value as u8,
@@ -61,12 +56,7 @@ pub impl<'a> Record for LinkRecord<'a> as LinkIsRecord {
 
     ghost reads = { λ s bs. link-at bs (s .phases .now) (s .signals) };
 
-    fn read(
-        &self,
-        bytes: &[u8],
-        at: usize,
-        before: &[Link],
-    ) -> Result<Recorded<Link>, SheetFault> {
+    fn read(&self, bytes: &[u8], at: usize, before: &[Link]) -> Result<Recorded<Link>, SheetFault> {
         let name = name(bytes, at)?;
         let tail = number(bytes, name.end, 0, self.signals)?;
         let head = number(bytes, tail.end, 1, self.signals)?;

@@ -1,10 +1,9 @@
 // The records of the section `turns`.
 ghost use mathlib.Core.Path.{_≡_};
-ghost use Prim.Native.Nat.{_-_, _^_, _<_, _≤_};
-ghost use lib.ListN.{getD};
+ghost use Prim.Native.Nat.{_^_, _<_, _≤_};
 ghost use Rattle.std.specs.shelf.Lists.{sumBy};
 ghost use Rattle.network.specs.Network.{joins};
-ghost use Rattle.network_sheet.specs.Turns.{numbered, green-in, given-in, share-from, supply-into, goes-on, within-supply, has-room, turn-at};
+ghost use Rattle.network_sheet.specs.Turns.{numbered, given-in, share-from, supply-into, goes-on, within-supply, has-room, turn-at};
 use network::links::Link;
 use network::links::Turn;
 use records::Record;
@@ -12,7 +11,8 @@ use records::Recorded;
 use words::fault::SheetFault;
 use words::number::number;
 
-// The junction where a link begins, and the one where it ends; links are counted from 1.
+// The junction where a link begins, the one where it ends, and its mask.
+// Links are counted from 1; out of range each is 0.
 fn tail_of(links: &[Link], number: usize) -> usize
     ensures { λ r. ⌜ r ≡ numbered (now (links .entry)) number .tail ⌝ }
 {
@@ -138,12 +138,7 @@ pub impl<'a> Record for TurnRecord<'a> as TurnIsRecord {
 
     ghost reads = { λ s bs. turn-at bs (s .links .now) (s .count) };
 
-    fn read(
-        &self,
-        bytes: &[u8],
-        at: usize,
-        before: &[Turn],
-    ) -> Result<Recorded<Turn>, SheetFault> {
+    fn read(&self, bytes: &[u8], at: usize, before: &[Turn]) -> Result<Recorded<Turn>, SheetFault> {
         let from = number(bytes, at, 1, self.count)?;
         let to = number(bytes, from.end, 1, self.count)?;
         let share = number(bytes, to.end, 1, 1000)?;

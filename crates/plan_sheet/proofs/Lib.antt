@@ -1,2 +1,2 @@
 pub mod Exactness
-mod Accepting
+pub mod Accepting

@@ -1,2 +1,3 @@
-// The verdict on an input, in one line.
+// The verdict on an input that holds a model sheet and a plan sheet.
+pub mod judge;
 pub mod verdict;

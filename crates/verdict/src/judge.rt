@@ -1,0 +1,46 @@
+// From the bytes of an input to its verdict.
+ghost use mathlib.Core.Path.{_≡_};
+ghost use lib.ListN.{drop};
+ghost use Rattle.std.specs.Vec.{made};
+ghost use Rattle.plan_sheet.specs.Accepts.{checked-sheet};
+ghost use Rattle.verdict.specs.Judged.{verdict-of, verdict-on, Right};
+use crate::verdict::Verdict;
+use model::Model;
+use network::network::NetworkModel;
+use network_sheet::read::read_network;
+use plan::limits::Limit;
+use plan_sheet::check::check_sheet;
+use records::fault::ModelFault;
+use std::alloc::AllocError;
+use std::alloc::Global;
+
+// What follows the first bytes of an input.
+fn after(input: &[u8], end: usize) -> &[u8]
+    ensures { λ r. ⌜ now r ≡ drop end (now (input .entry)) ⌝ }
+{
+    if end < input.len() { &input[end..] } else { &[] }
+}
+
+// The verdict on a plan sheet for the model.
+fn judge_plan<M: Model>(model: &M, limits: &[Limit], sheet: &[u8]) -> Verdict
+    ensures { λ r. ⌜ r ≡ verdict-of (checked-sheet (M·Model .meaning (now (model .entry))) (now (limits .entry)) (now (sheet .entry))) ⌝ }
+{
+    match check_sheet(model, limits, sheet) {
+        Ok(rows) => Verdict::Shelved(rows),
+        Err(fault) => Verdict::Refused(fault.refusal()),
+    }
+}
+
+// The verdict on an input: a model sheet and then, counted from its end, a plan sheet. An error is want of memory.
+pub fn judge(heap: Global, input: &[u8]) -> Result<Verdict, AllocError>
+    ensures is { λ r. ⌜ made r (λ v. v ≡ verdict-on (now (input .entry))) ⌝ }
+    ensures right { λ r. ⌜ made r (Right (now (input .entry))) ⌝ }
+{
+    match read_network(heap, input) {
+        Ok(read) => Ok(judge_plan(&read.network, read.limits.as_slice(), after(input, read.end))),
+        Err(why) => match why {
+            ModelFault::Sheet(fault) => Ok(Verdict::Refused(fault.refusal())),
+            ModelFault::Memory => Err(AllocError),
+        },
+    }
+}
