@@ -62,7 +62,10 @@ fn read_terms(bytes: &[u8], at: usize, count: usize, places: u32) -> Result<Term
     requires { ⌜ count ≤ 8 ⌝ }
     ensures { λ r. ⌜ told r ≡ terms-at (now (bytes .entry)) places at count ⌝ }
 {
-    let mut table = [Term { place: 0, weight: 0 }; 8];
+    let mut table = [Term {
+        place: 0,
+        weight: 0,
+    }; 8];
     let mut end = at;
     for k in 0..count {
         let read = read_term(bytes, end, places)?;

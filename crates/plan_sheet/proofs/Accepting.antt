@@ -58,9 +58,9 @@ module _ (m : Meaning) (ls : List Limit) (bs : List ℕ) where
       let rs : List (List ℕ) = rows-said p in
       let s : Says m bs p = x p .0 refl in
       let d : Decides (isOk r) (Every-run-holds m ls start rs) =
-          told-decides plan-refusal r (checked m ls start rs) (Every-run-holds m ls start rs) e
-          (λ k a. passes-hold m law ls start rs (some-rows p s) (checked-passed m ls law start rs k (whole-start p s) a))
-          (λ h. (length rs, checked-passes m ls start rs (holds-pass m law ls start rs (whole-start p s) h))) in
+      told-decides plan-refusal r (checked m ls start rs) (Every-run-holds m ls start rs) e
+      (λ k a. passes-hold m law ls start rs (some-rows p s) (checked-passed m ls law start rs k (whole-start p s) a))
+      (λ h. (length rs, checked-passes m ls start rs (holds-pass m law ls start rs (whole-start p s) h))) in
       record {
         says = λ a. (p, s);
         holds = λ q t. subst (λ y. Decides (isOk r) (Every-run-holds m ls (y .start) (rows-said y))) (ok-same (x q .1 t)) d;

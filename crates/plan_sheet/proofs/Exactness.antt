@@ -119,8 +119,7 @@ module _ (m : Meaning) (bs : List ℕ) where
       let rest = h .2 in
       let d = fill-read start-fills (λ k. omega (arith, b .high-tops k, told-next (m .tops) k)) vs 0 (record { queues = replicate 64 0; end = rest .0 }) to tops (rest .2) in
       let named : section-at bs 0 (codes "start") ≡ Ok a = section-read bs 0 (codes "start") a refl (h .1) in
-      let got : start-at m bs (rest .0) ≡ Ok (d .0) = ap (λ k. turns (place-at m bs) k 0 (record { queues = replicate 64 0; end = rest .0 })) (sym long) ∙ d .1 in
-      (
+      let got : start-at m bs (rest .0) ≡ Ok (d .0) = ap (λ k. turns (place-at m bs) k 0 (record { queues = replicate 64 0; end = rest .0 })) (sym long) ∙ d .1 in (
         d .0,
         then-ok _ named ∙ found bs a (m .places) (m .places) (length vs) (rest .0) (λ r. start-at m bs (r .end)) (rest .1) (omega (arith, long)) (omega (arith, long)) (omega (arith, long, b .few-places)) ∙ got,
         d .2,

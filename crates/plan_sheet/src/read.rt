@@ -42,7 +42,12 @@ pub struct PlanRead {
 }
 
 // One number more: that of place k, counted from 0, from 0 to its top.
-fn next_queue<M: Model>(model: &M, bytes: &[u8], k: usize, start: Start) -> Result<Start, SheetFault>
+fn next_queue<M: Model>(
+    model: &M,
+    bytes: &[u8],
+    k: usize,
+    start: Start,
+) -> Result<Start, SheetFault>
     requires { ⌜ k < 64 ⌝ }
     ensures { λ r. ⌜ told r ≡ place-at (M·Model .meaning (now (model .entry))) (now (bytes .entry)) k start ⌝ }
 {

@@ -37,7 +37,9 @@ fn told(heap: Global, input: &[u8]) -> Result<(u8, usize, usize), AllocError> {
 
 fn try_changes(heap: Global, changes: &[Change]) -> Result<(), Fail> {
     for change in changes {
-        let (front, back) = CORRIDOR.split_once(change.old).ok_or("the old words are not there")?;
+        let (front, back) = CORRIDOR
+            .split_once(change.old)
+            .ok_or("the old words are not there")?;
         let new = change.new;
         let sheet = format!(heap, "{front}{new}{back}")?;
         check_eq(told(heap, sheet.as_bytes())?, change.told)?;

@@ -18,7 +18,11 @@ use std::alloc::Global;
 fn after(input: &[u8], end: usize) -> &[u8]
     ensures { λ r. ⌜ now r ≡ drop end (now (input .entry)) ⌝ }
 {
-    if end < input.len() { &input[end..] } else { &[] }
+    if end < input.len() {
+        &input[end..]
+    } else {
+        &[]
+    }
 }
 
 // The verdict on a plan sheet for the model.
@@ -37,7 +41,11 @@ pub fn judge(heap: Global, input: &[u8]) -> Result<Verdict, AllocError>
     ensures right { λ r. ⌜ made r (Right (now (input .entry))) ⌝ }
 {
     match read_network(heap, input) {
-        Ok(read) => Ok(judge_plan(&read.network, read.limits.as_slice(), after(input, read.end))),
+        Ok(read) => Ok(judge_plan(
+            &read.network,
+            read.limits.as_slice(),
+            after(input, read.end),
+        )),
         Err(why) => match why {
             ModelFault::Sheet(fault) => Ok(Verdict::Refused(fault.refusal())),
             ModelFault::Memory => Err(AllocError),

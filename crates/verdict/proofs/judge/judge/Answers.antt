@@ -19,7 +19,7 @@ returns-in-Ok c =
     let bs = c .args .input .now in
     let v = c .in-Ok .read in
     let plan : c .judge-plan .result ≡ verdict-of (checked-sheet (network (roads (v .network))) (vec-items (v .limits)) (drop (v .end) bs)) =
-        c .judge-plan .ensures ∙ (λ i. verdict-of (checked-sheet (network (roads (v .network))) (c .as-slice .ensures .value i) (c .after .ensures i))) in
+    c .judge-plan .ensures ∙ (λ i. verdict-of (checked-sheet (network (roads (v .network))) (c .as-slice .ensures .value i) (c .after .ensures i))) in
     record {
       is = plan ∙ ap (λ (t : Told Content). verdict-of (then t (λ n. checked-sheet (network (n .roads)) (n .limits) (drop (n .end) bs)))) (c .in-Ok .ensures tt .is);
       right = right-read bs v (c .in-Ok .ensures tt .exact) (c .judge-plan .result) plan;
