@@ -1,24 +1,21 @@
 -- A limit is read exactly where its words say it.
 use mathlib.Core.Path.{_≡_, refl, sym, ap, subst, _∙_}
-use mathlib.Core.Bool.{Bool, true, false, cond, _||_}
+use mathlib.Core.Bool.{false}
 use mathlib.Core.Logic.{⊎-elim}
-use mathlib.Core.List.{List, [], _∷_, _++_}
-use Prim.Native.Nat.{ℕ, zero, suc, _+_, _-_, _^_, _≤_, _<_}
+use mathlib.Core.List.{List, [], _∷_}
+use Prim.Native.Nat.{ℕ, zero, suc, _+_, _-_, _≤_}
 use native.Mathlib.Omega.{arith}
-use lib.Dec.{eqb}
 use lib.ListN.{length, set, replicate, take}
 use Rattle.std.specs.Joined.{joined}
 use Rattle.std.specs.Written.{decimal}
 use Rattle.std.specs.shelf.Lists.{All}
-use Rattle.std.specs.declared.result.Result.the-variants.{Ok, Err}
+use Rattle.std.specs.declared.result.Result.the-variants.{Ok}
 use Rattle.std.proofs.shelf.Tests.{cond-true, cond-false, cases-bool, or-parts, or-from, eqb-false, ne-eqb}
-use Rattle.refusal.specs.Questions.{Told, then, no, turns}
+use Rattle.refusal.specs.Questions.{no, turns}
 use Rattle.refusal.proofs.Turning.{then-ok, then-parts, ok-same}
-use Rattle.words.specs.declared.number.Reading.{Reading}
-use Rattle.words.specs.Numbers.{number-at}
 use Rattle.words.specs.Spelling.{Next, Spelled}
 use Rattle.words.specs.Tables.{written}
-use Rattle.words.proofs.Due.{due, found, number-read, Stands}
+use Rattle.words.proofs.Due.{due, found}
 use Rattle.words.proofs.Filling.{spelled-join, spelled-split}
 use Rattle.words.proofs.Written.{take-tabled}
 use Rattle.records.specs.declared.Recorded.{Recorded}
@@ -26,7 +23,7 @@ use Rattle.records.proofs.Exactness.{Exact}
 use Rattle.plan.specs.declared.limits.Term.{Term}
 use Rattle.plan.specs.declared.limits.Limit.{Limit}
 use Rattle.limit_sheet.specs.declared.Terms.{Terms}
-use Rattle.limit_sheet.specs.Limits.{no-term, named-in, repeated, term-at, next-term, terms-at, once-only, limit-at, term-text, Term-of, Once, Limit-said}
+use Rattle.limit_sheet.specs.Limits.{no-term, named-in, repeated, term-at, next-term, terms-at, limit-at, term-text, Term-of, Once, Limit-said}
 
 -- the test for a repeated place tells whether each is named once
 named-none : (p : ℕ) (ts : List Term) → named-in p ts ≡ false → All (λ u. u .place ≡ p → ⊥) ts

@@ -1,8 +1,8 @@
 -- The limits of a model sheet.
 use mathlib.Core.Path.{_≡_}
-use mathlib.Core.Bool.{Bool, true, false, cond, _||_}
+use mathlib.Core.Bool.{Bool, false, cond, _||_}
 use mathlib.Core.List.{List, [], _∷_}
-use Prim.Native.Nat.{ℕ, _+_, _≤_}
+use Prim.Native.Nat.{ℕ, _≤_}
 use lib.Dec.{eqb}
 use lib.ListN.{length, set, replicate, take}
 use Rattle.std.specs.Joined.{joined}
@@ -14,7 +14,7 @@ use Rattle.words.specs.Numbers.{number-at}
 use Rattle.words.specs.Spelling.{Spelled}
 use Rattle.words.specs.Tables.{written}
 use Rattle.records.specs.declared.Recorded.{Recorded}
-use Rattle.records.specs.Sections.{Reader, Saying}
+use Rattle.records.specs.Sections.{Reader}
 use Rattle.plan.specs.declared.limits.Term.{Term}
 use Rattle.plan.specs.declared.limits.Limit.{Limit}
 use Rattle.limit_sheet.specs.declared.Terms.{Terms}

@@ -6,7 +6,7 @@ use Prim.Native.Nat.{ℕ, _≤_}
 use native.Mathlib.Omega.{arith}
 use lib.ListN.{length, replicate}
 use Rattle.std.proofs.shelf.Lists.{length-replicate}
-use Rattle.model.specs.State.{capped, fits-row}
+use Rattle.model.specs.State.{fits-row}
 use Rattle.model.specs.declared.Answer.{Answer}
 use Rattle.model.specs.declared.Answer.the-variants.{Clear, Held}
 use Rattle.model.specs.Model.{Meaning, Core, CoreLaws, model, Lawful, dark-row, lamps, lit, In-range, Placed}

@@ -1,8 +1,8 @@
 -- Laws of states: what stands at each place of a state that is made whole or capped, and a test at every number.
 use mathlib.Core.Path.{_≡_, refl, sym, ap, _∙_, fun-ext}
-use mathlib.Core.Bool.{Bool, true, false, _&&_}
+use mathlib.Core.Bool.{Bool, true, false}
 use mathlib.Core.List.{List}
-use mathlib.Core.Logic.{⊎-elim, inl, inr}
+use mathlib.Core.Logic.{⊎-elim}
 use Prim.Native.Nat.{ℕ, zero, suc, _+_, _-_, _≤_, _<_, min}
 use native.Mathlib.Nat.{zero-add}
 use native.Mathlib.Numerals.{add-one}
@@ -11,7 +11,7 @@ use lib.Dec.{leb, ltb}
 use lib.ListN.{length, getD, set, replicate}
 use Rattle.std.proofs.shelf.Lists.{getD-past, getD-replicate, length-replicate, length-set, getD-set-same, getD-set-other}
 use Rattle.std.proofs.shelf.Counted.{length-map-counting, getD-map-counting, fill-by-all}
-use Rattle.std.proofs.shelf.Tests.{cases-bool, cond-true, cond-false, lt-ltb, le-ltb, ltb-true, ltb-false, cases-lt, cases-order, both-ways, and-parts, and-from, and-left, and-right, le-leb, leb-true}
+use Rattle.std.proofs.shelf.Tests.{cases-bool, cond-true, cond-false, le-ltb, ltb-false, cases-lt, both-ways, and-parts, and-from, le-leb, leb-true}
 use Rattle.std.specs.declared.option.Option.{Option}
 use Rattle.std.specs.declared.option.Option.the-variants.{Some, None}
 use Rattle.model.specs.State.{Below, whole, capped, every, told, Filled, fits-row, above-from, lowest-above}

@@ -18,7 +18,7 @@ use Rattle.model.specs.State.{whole, capped}
 use Rattle.model.specs.Model.{Meaning, Core, model, lowest, lit}
 use Rattle.network.specs.declared.links.Link.{Link}
 use Rattle.network.specs.declared.links.Turn.{Turn}
-use Rattle.network.specs.Sound.{no-link, Phases-ok, Links-ok, Turns-ok}
+use Rattle.network.specs.Sound.{no-link, no-turn, Phases-ok, Links-ok, Turns-ok}
 
 -- the phases of each junction, the links and the turns
 pub record Roads : Type 0 where
@@ -171,3 +171,16 @@ joins t a b = eqb (t .from) a && eqb (t .to) b
 abbrev pub share-of : List Turn → ℕ → ℕ → Option ℕ
 share-of [] a b = None
 share-of (t ∷ ts) a b = cond (joins t a b) (Some (t .share)) (share-of ts a b)
+
+-- a turn joins link a to link b, with the share s
+pub record Turns (ts : List Turn) (a b s : ℕ) : Type 0 where
+  pub index : ℕ
+  pub inside : index < length ts
+  pub from : getD ts index no-turn .from ≡ a
+  pub to : getD ts index no-turn .to ≡ b
+  pub share : getD ts index no-turn .share ≡ s
+
+-- a share that is told is that of a turn between the two links, and none is told only where no turn joins them
+pub record Share-told (ts : List Turn) (a b : ℕ) (r : Option ℕ) : Type 0 where
+  pub joined : (s : ℕ) → r ≡ Some s → Turns ts a b s
+  pub apart : r ≡ None → (s : ℕ) → Turns ts a b s → ⊥

@@ -1,8 +1,7 @@
 -- The check accepts exactly where each row of the heaviest run passes and its end is at or below the start.
-use mathlib.Core.Path.{_≡_, refl, sym, ap, subst, _∙_}
-use mathlib.Core.Bool.{true}
+use mathlib.Core.Path.{_≡_, refl, sym, ap, _∙_}
 use mathlib.Core.List.{List, [], _∷_}
-use Prim.Native.Nat.{ℕ, zero, suc, _+_, _≤_, _<_}
+use Prim.Native.Nat.{ℕ, _+_, _≤_, _<_}
 use native.Mathlib.Omega.{arith}
 use lib.ListN.{length, getD, drop, take}
 use lib.Seq.{getD-take, length-take-le}
@@ -18,12 +17,11 @@ use Rattle.refusal.specs.Questions.{Told, then, told-by}
 use Rattle.refusal.proofs.Turning.{then-ok, then-err, then-parts, ok-same}
 use Rattle.model.specs.declared.Answer.{Answer}
 use Rattle.model.specs.declared.Answer.the-variants.{Clear, Held}
-use Rattle.model.specs.declared.Cause.the-variants.{Blocked, Overflow}
 use Rattle.model.specs.Model.{Meaning, Lawful}
-use Rattle.model.specs.State.{Below, lowest-above}
+use Rattle.model.specs.State.{lowest-above}
 use Rattle.model.proofs.State.{none-above, below-none}
 use Rattle.plan.specs.declared.limits.Limit.{Limit}
-use Rattle.plan.specs.Limits.{Keeps, first-broken}
+use Rattle.plan.specs.Limits.{first-broken}
 use Rattle.plan.specs.Check.{ask-row, check-row, check-rows, ask-end, checked, round-end, Passes, Passes-round}
 use Rattle.plan.proofs.Keeping.{unbroken-keeps, keeps-unbroken}
 
@@ -38,8 +36,7 @@ err-ok d y e = let z : _≡_ {A = ℕ} 0 1 = cc in absurd (omega arith)
 
 row-passed : (n : ℕ) (f : Option ℕ) (a : Answer) (after y : List ℕ) → ask-row n f a after ≡ Ok y → Passed f a after y
 row-passed n (Some l) a after y e = err-ok _ y e
-row-passed n None (Held p Blocked) after y e = err-ok _ y e
-row-passed n None (Held p Overflow) after y e = err-ok _ y e
+row-passed n None (Held p cause) after y e = err-ok _ y e
 row-passed n None Clear after y e = record { kept = refl; is-clear = refl; is = ok-same e }
 
 row-passes : (n : ℕ) (f : Option ℕ) (a : Answer) (after : List ℕ) → f ≡ None → a ≡ Clear → ask-row n f a after ≡ Ok after

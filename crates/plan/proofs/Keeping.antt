@@ -1,8 +1,8 @@
 -- Limits: one more in the search for the first broken one, and what keeps them.
-use mathlib.Core.Path.{_≡_, refl, sym, ap, _∙_}
+use mathlib.Core.Path.{_≡_, refl, sym, _∙_}
 use mathlib.Core.Bool.{Bool, true, false, cond}
 use mathlib.Core.List.{List, [], _∷_}
-use Prim.Native.Nat.{ℕ, zero, suc, _+_, _*_, _≤_, _<_, zero-le}
+use Prim.Native.Nat.{ℕ, zero, suc, _+_, _≤_, _<_, zero-le}
 use native.Mathlib.Nat.{le-refl, le-trans, mul-le-mul-left}
 use native.Mathlib.Omega.{arith}
 use lib.Dec.{ltb}
@@ -12,11 +12,11 @@ use Rattle.std.specs.declared.option.Option.the-variants.{Some, None}
 use Rattle.std.specs.shelf.Lists.{sumBy}
 use Rattle.std.proofs.shelf.Lists.{at-drop-more, at-drop-all}
 use Rattle.std.proofs.shelf.Sums.{sumBy-cons}
-use Rattle.std.proofs.shelf.Tests.{cond-true, cond-false, lt-ltb, le-ltb, ltb-false}
+use Rattle.std.proofs.shelf.Tests.{cond-true, cond-false, le-ltb, ltb-false}
 use Rattle.model.specs.State.{Below, told}
 use Rattle.plan.specs.declared.limits.Term.{Term}
 use Rattle.plan.specs.declared.limits.Limit.{Limit}
-use Rattle.plan.specs.Limits.{weighed, total, Kept, Keeps, broken-from, first-broken}
+use Rattle.plan.specs.Limits.{weighed, total, Keeps, broken-from}
 
 module _ (ls : List Limit) (x : List ℕ) (i : ℕ) (d : Limit) (h : i < length ls) where
   pub broken-here : true ≡ ltb (getD ls i d .bound) (total x (getD ls i d .terms)) → broken-from (i + 1) (drop i ls) x ≡ Some (i + 1)

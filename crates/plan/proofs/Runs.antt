@@ -1,23 +1,25 @@
 -- The heaviest run passes exactly where every one-round run holds.
 use mathlib.Core.Path.{_≡_, refl, sym, subst}
 use mathlib.Core.List.{List, [], _∷_}
-use Prim.Native.Nat.{ℕ, zero, suc, _≤_, _<_}
+use Prim.Native.Nat.{ℕ, _≤_}
 use native.Mathlib.Nat.{le-refl, le-trans}
 use native.Mathlib.Omega.{arith}
 use lib.ListN.{length}
-use Rattle.model.specs.declared.Answer.the-variants.{Clear}
 use Rattle.model.specs.Model.{Meaning, Lawful}
 use Rattle.model.specs.State.{Below}
 use Rattle.plan.specs.declared.limits.Limit.{Limit}
 use Rattle.plan.specs.Limits.{Keeps}
 use Rattle.plan.specs.Check.{checked, round-end, Passes, Passes-round}
-use Rattle.plan.specs.Runs.{Within, Reaches, Run, ends, takes, Holds, Every-run-holds}
+use Rattle.plan.specs.Runs.{Run, ends, takes, Holds, Every-run-holds}
 use Rattle.plan.specs.declared.fault.CheckFault.{CheckFault}
 use Rattle.plan.specs.Faults.{check-refusal}
 use Rattle.plan.specs.Accepts.{Checked}
 use Rattle.plan.proofs.Keeping.{keeps-below}
 use Rattle.plan.proofs.Accepts.{checked-passed, checked-passes, told-decides}
 use Rattle.refusal.specs.Questions.{told-by}
+use Rattle.refusal.specs.declared.Refusal.{Refusal}
+use Rattle.std.specs.Orderings.{Decides}
+use Rattle.std.specs.Results.{isOk}
 use Rattle.std.specs.declared.result.Result.{Result}
 
 module _ (m : Meaning) (law : Lawful m) (ls : List Limit) (start : List ℕ) where
@@ -53,7 +55,14 @@ module _ (m : Meaning) (law : Lawful m) (ls : List Limit) (start : List ℕ) whe
   pub holds-pass : (rs : List (List ℕ)) → length start ≡ 64 → Every-run-holds m ls start rs → Passes-round m ls start rs
   holds-pass rs w h = heaviest-passes start rs (h start (record { size = w; below = λ j. le-refl _ }) (heaviest start rs))
 
--- an answer that tells what is checked keeps the whole promise
+-- an answer that tells what is checked, by refusals of any kind, decides whether every one-round run holds
+pub decides-runs : {F : Type 0} (number : F → Refusal) (m : Meaning) → Lawful m → (ls : List Limit) (start : List ℕ) (rs : List (List ℕ)) (r : Result ℕ F) → length start ≡ 64 → 1 ≤ length rs → told-by number r ≡ checked m ls start rs → Decides (isOk r) (Every-run-holds m ls start rs)
+decides-runs number m law ls start rs r w some e =
+    told-decides number r (checked m ls start rs) (Every-run-holds m ls start rs) e
+    (λ k a. passes-hold m law ls start rs some (checked-passed m ls law start rs k w a))
+    (λ h. (length rs, checked-passes m ls start rs (holds-pass m law ls start rs w h)))
+
+-- an answer of the check keeps its whole promise
 pub promised : (m : Meaning) → Lawful m → (ls : List Limit) (start : List ℕ) (rs : List (List ℕ)) (r : Result ℕ CheckFault) → length start ≡ 64 → 1 ≤ length rs → told-by check-refusal r ≡ checked m ls start rs → Checked m ls start rs r
 promised m law ls start rs r w some e =
     record {
@@ -62,8 +71,5 @@ promised m law ls start rs r w some e =
           told-decides check-refusal r (checked m ls start rs) (Passes-round m ls start rs) e
           (λ k a. checked-passed m ls law start rs k w a)
           (λ p. (length rs, checked-passes m ls start rs p));
-      holds =
-          told-decides check-refusal r (checked m ls start rs) (Every-run-holds m ls start rs) e
-          (λ k a. passes-hold m law ls start rs some (checked-passed m ls law start rs k w a))
-          (λ h. (length rs, checked-passes m ls start rs (holds-pass m law ls start rs w h)));
+      holds = decides-runs check-refusal m law ls start rs r w some e;
     }

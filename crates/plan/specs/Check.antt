@@ -9,8 +9,7 @@ use Rattle.std.specs.declared.result.Result.the-variants.{Ok, Err}
 use Rattle.refusal.specs.Questions.{Told, then, refusal}
 use Rattle.model.specs.declared.Answer.{Answer}
 use Rattle.model.specs.declared.Answer.the-variants.{Clear, Held}
-use Rattle.model.specs.declared.Cause.the-variants.{Blocked, Overflow}
-use Rattle.model.specs.Model.{Meaning}
+use Rattle.model.specs.Model.{Meaning, cause-number}
 use Rattle.model.specs.State.{Below, lowest-above}
 use Rattle.plan.specs.declared.limits.Limit.{Limit}
 use Rattle.plan.specs.declared.plan.Plan.{Plan}
@@ -20,11 +19,10 @@ use Rattle.plan.specs.Limits.{Keeps, first-broken}
 abbrev pub rows-of : Plan → List (List ℕ)
 rows-of p = take (p .count) (p .rows)
 
--- questions 13, 14 and 15 at row n; without a no, the state after it
+-- at row n: question 13 on the limits, then 14 on cause 1 and 15 on cause 2; without a no, the state after the row
 abbrev pub ask-row : ℕ → Option ℕ → Answer → List ℕ → Told (List ℕ)
 ask-row n (Some limit) a after = Err (refusal 13 n limit)
-ask-row n None (Held place Blocked) after = Err (refusal 14 n place)
-ask-row n None (Held place Overflow) after = Err (refusal 15 n place)
+ask-row n None (Held place cause) after = Err (refusal (13 + cause-number cause) n place)
 ask-row n None Clear after = Ok after
 
 abbrev pub check-row : Meaning → List Limit → ℕ → List ℕ → List ℕ → Told (List ℕ)

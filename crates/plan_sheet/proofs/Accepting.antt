@@ -17,8 +17,8 @@ use Rattle.model.specs.Model.{Meaning, Lawful}
 use Rattle.plan.specs.declared.limits.Limit.{Limit}
 use Rattle.plan.specs.Check.{checked}
 use Rattle.plan.specs.Runs.{Every-run-holds}
-use Rattle.plan.proofs.Accepts.{checked-passed, checked-passes, told-decides}
-use Rattle.plan.proofs.Runs.{passes-hold, holds-pass}
+use Rattle.plan.proofs.Accepts.{checked-passed, checked-passes}
+use Rattle.plan.proofs.Runs.{decides-runs, passes-hold, holds-pass}
 use Rattle.words.specs.Tables.{tabled}
 use Rattle.words.proofs.Written.{length-written}
 use Rattle.plan_sheet.specs.declared.fault.PlanFault.{PlanFault}
@@ -57,10 +57,7 @@ module _ (m : Meaning) (ls : List Limit) (bs : List ℕ) where
       let start : List ℕ = p .start in
       let rs : List (List ℕ) = rows-said p in
       let s : Says m bs p = x p .0 refl in
-      let d : Decides (isOk r) (Every-run-holds m ls start rs) =
-      told-decides plan-refusal r (checked m ls start rs) (Every-run-holds m ls start rs) e
-      (λ k a. passes-hold m law ls start rs (some-rows p s) (checked-passed m ls law start rs k (whole-start p s) a))
-      (λ h. (length rs, checked-passes m ls start rs (holds-pass m law ls start rs (whole-start p s) h))) in
+      let d : Decides (isOk r) (Every-run-holds m ls start rs) = decides-runs plan-refusal m law ls start rs r (whole-start p s) (some-rows p s) e in
       record {
         says = λ a. (p, s);
         holds = λ q t. subst (λ y. Decides (isOk r) (Every-run-holds m ls (y .start) (rows-said y))) (ok-same (x q .1 t)) d;

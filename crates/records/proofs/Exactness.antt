@@ -2,14 +2,13 @@
 use mathlib.Core.Path.{_≡_, refl, sym, ap, subst, _∙_}
 use mathlib.Core.Bool.{false}
 use mathlib.Core.List.{List, [], _∷_, _++_, append-assoc}
-use Prim.Native.Nat.{ℕ, zero, suc, _+_, _-_, _^_, _≤_, _<_}
+use Prim.Native.Nat.{ℕ, zero, suc, _+_, _-_, _^_, _<_}
 use native.Mathlib.Omega.{arith}
-use lib.ListN.{length, length-append}
+use lib.ListN.{length}
 use Rattle.std.specs.Written.{decimal}
-use Rattle.std.specs.declared.result.Result.the-variants.{Ok, Err}
-use Rattle.refusal.specs.Questions.{Told, then, turns}
+use Rattle.std.specs.declared.result.Result.the-variants.{Ok}
+use Rattle.refusal.specs.Questions.{then, turns}
 use Rattle.refusal.proofs.Turning.{then-ok, then-parts, ok-same}
-use Rattle.words.specs.declared.number.Reading.{Reading}
 use Rattle.words.specs.Words.{numeral}
 use Rattle.words.specs.Numbers.{number-at, section-at}
 use Rattle.words.specs.Spelling.{Next}

@@ -1,11 +1,10 @@
 -- One question, or one turn, after another.
 use mathlib.Core.Path.{_≡_, refl, sym, ap, _∙_}
-use Prim.Native.Nat.{ℕ, zero, suc, _+_, _-_, _≤_, _<_}
+use Prim.Native.Nat.{ℕ, suc, _+_, _-_, _<_}
 use native.Mathlib.Omega.{arith}
-use Rattle.std.specs.declared.result.Result.{Result}
 use Rattle.std.specs.declared.result.Result.the-variants.{Ok, Err}
 use Rattle.refusal.specs.declared.Refusal.{Refusal}
-use Rattle.refusal.specs.Questions.{Told, then, turns, told-by}
+use Rattle.refusal.specs.Questions.{Told, then, turns}
 
 pub then-ok : {A B : Type 0} (f : A → Told B) {r : Told A} {x : A} → r ≡ Ok x → then r f ≡ f x
 then-ok f e = ap (λ r. then r f) e
@@ -30,9 +29,6 @@ module _ {S : Type 0} (f : ℕ → S → Told S) (n k : ℕ) (s : S) where
 
   pub turns-stop : (d : Refusal) → k < n → f k s ≡ Err d → turns f (n - k) k s ≡ Err d
   turns-stop d h e = opened h ∙ ap (λ r. then r (turns f (n - (k + 1)) (k + 1))) e
-
-  pub turns-done : n ≤ k → turns f (n - k) k s ≡ Ok s
-  turns-done h = let e : n - k ≡ 0 = omega arith in ap (λ m. turns f m k s) e
 
 -- the same with the invariant in hand: what is left of the loop comes to `all`
 module _ {S : Type 0} (f : ℕ → S → Told S) (n k : ℕ) (s : S) (all : Told S) (inv : turns f (n - k) k s ≡ all) (on : k < n) where

@@ -1,6 +1,8 @@
 // Sheets, whole and damaged, and what is told of each.
+mod full;
 mod tables;
 
+use full::full_size;
 use std::alloc::AllocError;
 use std::alloc::Global;
 use std::test::*;
@@ -90,4 +92,11 @@ fn length(rt: LibcRuntime) -> Result<(), Fail> {
     check_eq(told(rt.alloc(), longest.as_slice())?, (0, 2, 0))?;
     let longer = padded(rt.alloc(), 65536)?;
     check_eq(told(rt.alloc(), longer.as_slice())?, (1, 0, 0))
+}
+
+// It drains: each round ends at or below its start.
+#[test]
+fn full_sheet(rt: LibcRuntime) -> Result<(), Fail> {
+    let sheet = full_size(rt.alloc())?;
+    check_eq(told(rt.alloc(), sheet.as_bytes())?, (0, 64, 0))
 }

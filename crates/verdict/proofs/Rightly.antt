@@ -6,12 +6,10 @@ use Prim.Native.Nat.{ℕ}
 use native.Mathlib.Omega.{arith}
 use lib.ListN.{drop}
 use Rattle.std.specs.Of.Vec.{vec-items}
-use Rattle.std.specs.declared.result.Result.{Result}
 use Rattle.std.specs.declared.result.Result.the-variants.{Ok, Err}
 use Rattle.refusal.specs.declared.Refusal.{Refusal}
 use Rattle.refusal.specs.Questions.{Told}
-use Rattle.records.specs.declared.fault.ModelFault.{ModelFault}
-use Rattle.records.specs.declared.fault.ModelFault.the-variants.{Sheet, Memory}
+use Rattle.records.specs.declared.fault.ModelFault.the-variants.{Sheet}
 use Rattle.words.specs.declared.fault.SheetFault.{SheetFault}
 use Rattle.network.specs.Code.{roads}
 use Rattle.network.specs.Network.{Roads, network}
@@ -19,7 +17,6 @@ use Rattle.network.proofs.Laws.{lawful}
 use Rattle.network.proofs.Ranges.{sound}
 use Rattle.plan.specs.declared.limits.Limit.{Limit}
 use Rattle.plan.specs.Runs.{Every-run-holds}
-use Rattle.plan_sheet.specs.Plans.{PlanSaid}
 use Rattle.plan_sheet.specs.Says.{Says as Says-plan}
 use Rattle.plan_sheet.specs.Accepts.{checked-sheet, rows-said}
 use Rattle.plan_sheet.proofs.Accepting.{accepted, accepts}

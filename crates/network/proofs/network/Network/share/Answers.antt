@@ -6,7 +6,7 @@ use Rattle.std.specs.Of.Vec.{vec-items}
 use Rattle.std.specs.declared.option.Option.the-variants.{Some}
 use Rattle.network.specs.Sound.{no-turn}
 use Rattle.network.specs.Network.{joins}
-use Rattle.network.proofs.Sharing.{share-here, share-on, share-none}
+use Rattle.network.proofs.Sharing.{share-here, share-on, share-none, share-told}
 use Rattle.network.proofs.network.Network.share.Needs as need
 
 pub returns-then-joins : need.returns-then-joins
@@ -16,7 +16,8 @@ returns-then-joins c =
     let s = c .as-slice-t-items .ensures .value in
     let h : i < length ts = rw (← s) (c .loop-t-test .taken) in
     let e = subst (λ xs. true ≡ joins (getD xs i no-turn) (c .args .from) (c .args .to)) s (c .if-joins .ensures tt) in
-    ap (λ xs. Some (getD xs i no-turn .share)) s ∙ (sym (share-here ts i (c .args .from) (c .args .to) h e) ∙ c .loop-t .inv)
+    let is = ap (λ xs. Some (getD xs i no-turn .share)) s ∙ (sym (share-here ts i (c .args .from) (c .args .to) h e) ∙ c .loop-t .inv) in
+    record { value = is; joined = share-told (c .args .from) (c .args .to) ts _ is }
 
 pub loop-t-again : need.loop-t-again
 loop-t-again c =
@@ -32,4 +33,5 @@ returns c =
     let ts = vec-items (c .args .self .now .turns) in
     let s = c .as-slice-t-items .ensures .value in
     let h : length ts ≤ c .loop-t .t-index = rw (← s) (c .loop-t-test .left) in
-    sym (share-none ts (c .loop-t .t-index) (c .args .from) (c .args .to) h) ∙ c .loop-t .inv
+    let is = sym (share-none ts (c .loop-t .t-index) (c .args .from) (c .args .to) h) ∙ c .loop-t .inv in
+    record { value = is; joined = share-told (c .args .from) (c .args .to) ts _ is }
