@@ -80,7 +80,7 @@ fn write_times(sheet: &mut String, times: u32, word: &str) -> fmt::Result {
     Ok(())
 }
 
-pub fn full_size(heap: Global) -> Result<String, fmt::Error> {
+pub(super) fn full_size(heap: Global) -> Result<String, fmt::Error> {
     let mut sheet = String::new(heap);
     write!(sheet, "signals 32")?;
     write_times(&mut sheet, 32, "4")?;
