@@ -3,6 +3,7 @@ use mathlib.Core.Path.{_≡_}
 use mathlib.Core.Bool.{Bool, false, cond, _||_}
 use mathlib.Core.List.{List, [], _∷_}
 use Prim.Native.Nat.{ℕ, _≤_}
+use lib.Chars.{codes}
 use lib.Dec.{eqb}
 use lib.ListN.{length, set, replicate, take}
 use Rattle.std.specs.Joined.{joined}
@@ -14,7 +15,7 @@ use Rattle.words.specs.Numbers.{number-at}
 use Rattle.words.specs.Spelling.{Spelled}
 use Rattle.words.specs.Tables.{written}
 use Rattle.records.specs.declared.Recorded.{Recorded}
-use Rattle.records.specs.Sections.{Reader}
+use Rattle.records.specs.Sections.{Reader, Items, section-of}
 use Rattle.plan.specs.declared.limits.Term.{Term}
 use Rattle.plan.specs.declared.limits.Limit.{Limit}
 use Rattle.limit_sheet.specs.declared.Terms.{Terms}
@@ -58,6 +59,10 @@ limit-at bs places at before =
     then (number-at bs (bound .end) 1 8) (λ count.
     then (terms-at bs places (count .end) (count .value)) (λ terms.
     once-only (bound .place) (record { item = record { bound = bound .value; count = count .value; terms = terms .table }; end = terms .end }))))
+
+-- the section: at most 32 limits on so many places
+abbrev pub limits-section : List ℕ → ℕ → ℕ → Told (Items Limit)
+limits-section bs places at = section-of (limit-at bs places) bs at (codes "limits") 0 32
 
 -- the words of a term
 abbrev pub term-text : Term → List (List ℕ)

@@ -2,11 +2,16 @@
 ghost use mathlib.Core.Path.{_≡_};
 ghost use Prim.Native.Nat.{_≤_};
 ghost use Rattle.words.specs.Faults.{told};
-ghost use Rattle.limit_sheet.specs.Limits.{named-in, repeated, term-at, terms-at, limit-at};
+ghost use Rattle.limit_sheet.specs.Limits.{named-in, repeated, term-at, terms-at, limit-at, limits-section};
+ghost use Rattle.records.specs.Sections.{Listed-as};
 use plan::limits::Limit;
 use plan::limits::Term;
+use records::Listed;
 use records::Record;
 use records::Recorded;
+use records::fault::ModelFault;
+use records::read_section;
+use std::alloc::Global;
 use words::fault::SheetFault;
 use words::number::number;
 
@@ -78,11 +83,11 @@ fn read_terms(bytes: &[u8], at: usize, count: usize, places: u32) -> Result<Term
 
 // A limit over a model with so many places.
 #[derive(Clone, Copy)]
-pub struct LimitRecord {
-    pub places: u32,
+struct LimitRecord {
+    places: u32,
 }
 
-pub impl Record for LimitRecord as LimitIsRecord {
+impl Record for LimitRecord as LimitIsRecord {
     type Item = Limit;
 
     ghost reads = { λ s bs. limit-at bs (s .places) };
@@ -111,4 +116,17 @@ pub impl Record for LimitRecord as LimitIsRecord {
             end: terms.end,
         })
     }
+}
+
+// The section `limits`: at most 32 limits on so many places.
+pub fn read_limits(
+    heap: Global,
+    bytes: &[u8],
+    at: usize,
+    places: u32,
+) -> Result<Listed<Limit>, ModelFault>
+    ensures { λ r. ⌜ Listed-as r (limits-section (now (bytes .entry)) places at) ⌝ }
+{
+    let kind = LimitRecord { places };
+    read_section(heap, &kind, bytes, at, b"limits", 0, 32)
 }

@@ -17,12 +17,12 @@ use Rattle.records.proofs.Exactness.{section-stands-as, section-reads-as}
 use Rattle.network.specs.Network.{Roads}
 use Rattle.network.specs.Code.{roads}
 use Rattle.plan.specs.declared.limits.Limit.{Limit}
-use Rattle.limit_sheet.specs.Limits.{limit-at, Limit-said}
+use Rattle.limit_sheet.specs.Limits.{limits-section, limit-at, Limit-said}
 use Rattle.limit_sheet.proofs.Exactness.{limit-exact}
 use Rattle.network_sheet.specs.declared.read.NetworkRead.{NetworkRead}
 use Rattle.network_sheet.specs.Links.{signal-at, link-at, Signal-said, Link-said}
 use Rattle.network_sheet.specs.Turns.{turn-at, Turn-said}
-use Rattle.network_sheet.specs.Network.{signals-section, links-section, turns-section, limits-section, Content, content, sections, network-sheet, Network-as}
+use Rattle.network_sheet.specs.Network.{signals-section, links-section, turns-section, Content, content, sections, network-sheet, Network-as}
 use Rattle.network_sheet.specs.Says.{Says, Exactly}
 use Rattle.network_sheet.proofs.LinkExact.{signal-exact, link-exact}
 use Rattle.network_sheet.proofs.TurnExact.{turn-exact}

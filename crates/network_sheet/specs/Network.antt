@@ -18,7 +18,7 @@ use Rattle.network.specs.declared.links.Turn.{Turn}
 use Rattle.network.specs.Network.{Roads}
 use Rattle.network.specs.Code.{roads}
 use Rattle.plan.specs.declared.limits.Limit.{Limit}
-use Rattle.limit_sheet.specs.Limits.{limit-at}
+use Rattle.limit_sheet.specs.Limits.{limits-section}
 use Rattle.network_sheet.specs.declared.read.NetworkRead.{NetworkRead}
 use Rattle.network_sheet.specs.Links.{signal-at, link-at}
 use Rattle.network_sheet.specs.Turns.{turn-at}
@@ -34,10 +34,6 @@ links-section bs phases at = section-of (link-at bs phases (length phases)) bs a
 -- at most 256 turns between these links
 abbrev pub turns-section : List ℕ → List Link → ℕ → Told (Items Turn)
 turns-section bs links at = section-of (turn-at bs links (length links)) bs at (codes "turns") 0 256
-
--- at most 32 limits on so many places
-abbrev pub limits-section : List ℕ → ℕ → ℕ → Told (Items Limit)
-limits-section bs places at = section-of (limit-at bs places) bs at (codes "limits") 0 32
 
 -- what a sheet says, and where its last word ended
 pub record Content : Type 0 where

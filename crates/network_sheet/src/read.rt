@@ -1,8 +1,9 @@
 // Reading a network sheet: the sections `signals`, `links`, `turns` and `limits`.
 ghost use Prim.Native.Nat.{_≤_};
 ghost use lib.ListN.{length};
+ghost use Rattle.limit_sheet.specs.Limits.{limits-section};
 ghost use Rattle.records.specs.Sections.{Listed-as};
-ghost use Rattle.network_sheet.specs.Network.{signals-section, links-section, turns-section, limits-section, sections, network-sheet, Network-as};
+ghost use Rattle.network_sheet.specs.Network.{signals-section, links-section, turns-section, sections, network-sheet, Network-as};
 ghost use Rattle.network_sheet.specs.Says.{Exactly};
 use crate::link::LinkIsRecord;
 use crate::link::LinkRecord;
@@ -10,8 +11,7 @@ use crate::link::SignalIsRecord;
 use crate::link::SignalRecord;
 use crate::turn::TurnIsRecord;
 use crate::turn::TurnRecord;
-use limit_sheet::LimitIsRecord;
-use limit_sheet::LimitRecord;
+use limit_sheet::read_limits;
 use network::links::Link;
 use network::links::Turn;
 use network::network::Network;
@@ -82,10 +82,7 @@ fn limits_section(
     requires { ⌜ length (now links) ≤ 64 ⌝ }
     ensures { λ r. ⌜ Listed-as r (limits-section (now (bytes .entry)) (length (now (links .entry))) at) ⌝ }
 {
-    let kind = LimitRecord {
-        places: links.len() as u32,
-    };
-    read_section(heap, &kind, bytes, at, b"limits", 0, 32)
+    read_limits(heap, bytes, at, links.len() as u32)
 }
 
 // The four sections, one after the other.

@@ -2,10 +2,12 @@
 use mathlib.Core.Path.{_≡_, refl, sym, ap, subst, _∙_}
 use mathlib.Core.Bool.{false}
 use mathlib.Core.List.{List, [], _∷_, _++_, append-assoc}
-use Prim.Native.Nat.{ℕ, zero, suc, _+_, _-_, _^_, _<_}
+use Prim.Native.Nat.{ℕ, zero, suc, _+_, _-_, _^_, _≤_, _<_}
 use native.Mathlib.Omega.{arith}
-use lib.ListN.{length}
+use lib.ListN.{length, getD}
 use Rattle.std.specs.Written.{decimal}
+use Rattle.std.specs.shelf.Lists.{All}
+use Rattle.std.proofs.shelf.Elements.{all-getD}
 use Rattle.std.specs.declared.result.Result.the-variants.{Ok}
 use Rattle.refusal.specs.Questions.{then, turns}
 use Rattle.refusal.proofs.Turning.{then-ok, then-parts, ok-same}
@@ -81,3 +83,20 @@ module _ {A : Type 0} (read : Reader A) (R : Saying A) (exact : Exact read R) wh
         then-ok _ (section-read bs at word (s .named) plain (s .word-stands))
         ∙ then-ok (λ n. records-at read (n .end) (n .value)) (number-read bs (s .named) low high (length xs) (s .counted) (s .count-stands) (s .enough) (s .few) (omega (arith, s .few)))
         ∙ records-read xs 0 (record { items = []; end = s .counted }) to (s .records)
+
+-- what each record says of its item holds of all items
+said-all : {A : Type 0} (R : Saying A) (P : A → Type 0) → ((before : List A) (at : ℕ) (x : A) (to : ℕ) → R before at x to → P x) → (before : List A) (at : ℕ) (xs : List A) (to : ℕ) → Said R before at xs to → All P xs
+said-all R P each before at [] to s = tt
+said-all R P each before at (x ∷ xs) to s =
+    (each before at x (s .0) (s .1), said-all R P each (before ++ (x ∷ [])) (s .0) xs to (s .2))
+
+-- a section that was read: how many items there are, and what holds of each
+pub record Kept {A : Type 0} (P : A → Type 0) (d : A) (low high : ℕ) (xs : List A) : Type 0 where
+  pub enough : low ≤ length xs
+  pub few : length xs ≤ high
+  pub each : (k : ℕ) → k < length xs → P (getD xs k d)
+
+pub kept : {A : Type 0} (read : Reader A) (R : Saying A) → Exact read R → (P : A → Type 0) (d : A) → ((before : List A) (at : ℕ) (x : A) (to : ℕ) → R before at x to → P x) → (bs word : List ℕ) (at low high : ℕ) (t : Items A) → Ok t ≡ section-of read bs at word low high → Kept P d low high (t .items)
+kept read R exact P d each bs word at low high t h =
+    let s = section-stands-as read R exact bs word at low high t (sym h) in
+    record { enough = s .enough; few = s .few; each = λ k l. all-getD P (t .items) k d l (said-all R P each [] (s .counted) (t .items) (t .end) (s .records)) }

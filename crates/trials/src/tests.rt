@@ -2,20 +2,23 @@
 mod full;
 mod tables;
 
+use full::full_linear;
 use full::full_size;
 use std::alloc::AllocError;
 use std::alloc::Global;
 use std::test::*;
 use tables::CORRIDOR;
+use tables::LINEAR;
 use tables::RANGES;
 use tables::RECORDS;
+use tables::TWO_MODES;
 use tables::WHOLE;
 use tables::WORDS;
 use tables::WORKED;
 use verdict::judge::judge;
 use verdict::verdict::Verdict;
 
-// One change of the corridor's sheet, and the number and places of the refusal, or 0, the count of rows and 0.
+// One change of a sheet, and the number and places of the refusal, or 0, the count of rows and 0.
 #[derive(Clone, Copy)]
 pub struct Change {
     pub old: &'static str,
@@ -37,9 +40,9 @@ fn told(heap: Global, input: &[u8]) -> Result<(u8, usize, usize), AllocError> {
     }
 }
 
-fn try_changes(heap: Global, changes: &[Change]) -> Result<(), Fail> {
+fn try_changes(heap: Global, whole: &str, changes: &[Change]) -> Result<(), Fail> {
     for change in changes {
-        let (front, back) = CORRIDOR
+        let (front, back) = whole
             .split_once(change.old)
             .ok_or("the old words are not there")?;
         let new = change.new;
@@ -51,22 +54,27 @@ fn try_changes(heap: Global, changes: &[Change]) -> Result<(), Fail> {
 
 #[test]
 fn worked(rt: LibcRuntime) -> Result<(), Fail> {
-    try_changes(rt.alloc(), &WORKED)
+    try_changes(rt.alloc(), CORRIDOR, &WORKED)
 }
 
 #[test]
 fn words(rt: LibcRuntime) -> Result<(), Fail> {
-    try_changes(rt.alloc(), &WORDS)
+    try_changes(rt.alloc(), CORRIDOR, &WORDS)
 }
 
 #[test]
 fn ranges(rt: LibcRuntime) -> Result<(), Fail> {
-    try_changes(rt.alloc(), &RANGES)
+    try_changes(rt.alloc(), CORRIDOR, &RANGES)
 }
 
 #[test]
 fn records(rt: LibcRuntime) -> Result<(), Fail> {
-    try_changes(rt.alloc(), &RECORDS)
+    try_changes(rt.alloc(), CORRIDOR, &RECORDS)
+}
+
+#[test]
+fn linear_sheets(rt: LibcRuntime) -> Result<(), Fail> {
+    try_changes(rt.alloc(), TWO_MODES, &LINEAR)
 }
 
 #[test]
@@ -94,9 +102,11 @@ fn length(rt: LibcRuntime) -> Result<(), Fail> {
     check_eq(told(rt.alloc(), longer.as_slice())?, (1, 0, 0))
 }
 
-// It drains: each round ends at or below its start.
+// The network drains, and the linear model stays where it is: each round ends at or below its start.
 #[test]
-fn full_sheet(rt: LibcRuntime) -> Result<(), Fail> {
-    let sheet = full_size(rt.alloc())?;
-    check_eq(told(rt.alloc(), sheet.as_bytes())?, (0, 64, 0))
+fn full_sheets(rt: LibcRuntime) -> Result<(), Fail> {
+    let network = full_size(rt.alloc())?;
+    check_eq(told(rt.alloc(), network.as_bytes())?, (0, 64, 0))?;
+    let linear = full_linear(rt.alloc())?;
+    check_eq(told(rt.alloc(), linear.as_bytes())?, (0, 64, 0))
 }

@@ -1,1 +1,2 @@
 mod Rightly
+mod Models

@@ -1,4 +1,4 @@
-// A sheet of full size: 32 signals, 64 links, 256 turns, 32 limits and 64 rows.
+// Sheets of full size: 32 signals, 64 links and 256 turns, or 8 modes and 16 places; 32 limits and 64 rows.
 use std::alloc::Global;
 use std::fmt;
 use std::fmt::Write;
@@ -94,5 +94,21 @@ pub(super) fn full_size(heap: Global) -> Result<String, fmt::Error> {
     write_times(&mut sheet, 64, "1000")?;
     write!(sheet, " rows 64")?;
     write_rows(&mut sheet)?;
+    Ok(sheet)
+}
+
+// Each place passes on four fifths of what all have on average.
+pub(super) fn full_linear(heap: Global) -> Result<String, fmt::Error> {
+    let mut sheet = String::new(heap);
+    write!(sheet, "modes 8 places 16")?;
+    write_times(&mut sheet, 16, "100000 20")?;
+    write!(sheet, " entries 2048")?;
+    write_times(&mut sheet, 2048, "5")?;
+    write!(sheet, " limits 32")?;
+    write_times(&mut sheet, 32, "800 8 1 1 2 1 3 1 4 1 5 1 6 1 7 1 8 1")?;
+    write!(sheet, " start 16")?;
+    write_times(&mut sheet, 16, "100")?;
+    write!(sheet, " rows 64")?;
+    write_times(&mut sheet, 32, "1 8")?;
     Ok(sheet)
 }

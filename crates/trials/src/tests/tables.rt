@@ -71,7 +71,7 @@ pub const WORKED: [Change; 10] = [
 ];
 
 // Words that are missing, or not what is due.
-pub const WORDS: [Change; 20] = [
+pub const WORDS: [Change; 21] = [
     // a bad byte in a word
     Change {
         old: "links",
@@ -120,10 +120,16 @@ pub const WORDS: [Change; 20] = [
         new: "",
         told: (3, 0, 0),
     },
-    // another model's first word
+    // the first word of a linear sheet
     Change {
         old: "signals",
         new: "modes",
+        told: (4, 8, 0),
+    },
+    // another first word
+    Change {
+        old: "signals",
+        new: "places",
         told: (4, 0, 0),
     },
     // a number for a section word
@@ -577,5 +583,247 @@ pub const WHOLE: [Whole; 16] = [
     Whole {
         sheet: "signals 3\n2 2 2\nlinks 9\neast1 0 1 600 180 60 1\neast2 1 2 400 180 0 1\neast3 2 3 400 180 0 1\nwest1 0 3 600 180 50 1\nwest2 3 2 400 180 0 1\nwest3 2 1 400 180 0 1\nnorth1 0 1 300 90 20 2\nnorth2 0 2 300 90 20 2\nnorth3 0 3 300 90 15 2\nturns 8\n1 2 900 900\n2 3 850 900\n4 5 900 900\n5 6 850 900\n7 2 400 500\n8 3 300 500\n8 6 300 500\n9 5 400 500\nlimits 2\n400 2 2 1 7 1\n900 3 1 1 4 1 8 2\nstart 9\n120 78 108 100 63 94 20 20 15\nrows 3\n1 1 1\n1 1 1\n2 2 2\n",
         told: (16, 3, 3),
+    },
+];
+
+// Two values and two modes: the published example.
+pub const TWO_MODES: &str =
+    "modes 2 places 2 100000 200 100000 100 entries 8 150 10 20 50 70 10 10 110 limits 1 45600 2 1 1 2 1 start 2 15000 30600 rows 7 1 2 2 1 2 2 2";
+
+// The same with other numbers and words.
+pub const LINEAR: [Change; 39] = [
+    // nothing is changed
+    Change {
+        old: "rows 7",
+        new: "rows 7",
+        told: (0, 7, 0),
+    },
+    // bound 45599
+    Change {
+        old: "45600",
+        new: "45599",
+        told: (13, 0, 1),
+    },
+    // another start
+    Change {
+        old: "15000 30600",
+        new: "14912 30481",
+        told: (0, 7, 0),
+    },
+    // a start too low
+    Change {
+        old: "15000 30600",
+        new: "14000 30600",
+        told: (16, 7, 1),
+    },
+    // a top that cuts off at row 0
+    Change {
+        old: "100000 200",
+        new: "25759 200",
+        told: (15, 0, 1),
+    },
+    // a top that does not
+    Change {
+        old: "100000 200",
+        new: "27745 200",
+        told: (0, 7, 0),
+    },
+    // line and column swapped
+    Change {
+        old: "150 10 20 50",
+        new: "150 20 10 50",
+        told: (13, 1, 1),
+    },
+    // mode 0 in the first row
+    Change {
+        old: "7 1 2 2",
+        new: "7 0 2 2",
+        told: (13, 1, 1),
+    },
+    // modes misspelt
+    Change {
+        old: "modes",
+        new: "mode",
+        told: (4, 0, 0),
+    },
+    // places misspelt
+    Change {
+        old: "places",
+        new: "place",
+        told: (4, 8, 0),
+    },
+    // entries misspelt
+    Change {
+        old: "entries",
+        new: "entry",
+        told: (4, 39, 0),
+    },
+    // limits misspelt
+    Change {
+        old: "limits",
+        new: "limit",
+        told: (4, 75, 0),
+    },
+    // a network's first word
+    Change {
+        old: "modes",
+        new: "signals",
+        told: (5, 10, 0),
+    },
+    // no mode
+    Change {
+        old: "modes 2",
+        new: "modes 0",
+        told: (6, 6, 0),
+    },
+    // 9 modes
+    Change {
+        old: "modes 2",
+        new: "modes 9",
+        told: (6, 6, 0),
+    },
+    // a leading zero
+    Change {
+        old: "modes 2",
+        new: "modes 02",
+        told: (5, 6, 0),
+    },
+    // a mode without entries
+    Change {
+        old: "modes 2",
+        new: "modes 3",
+        told: (6, 47, 0),
+    },
+    // no place
+    Change {
+        old: "places 2",
+        new: "places 0",
+        told: (6, 15, 0),
+    },
+    // 17 places
+    Change {
+        old: "places 2",
+        new: "places 17",
+        told: (6, 15, 0),
+    },
+    // top 0
+    Change {
+        old: "100000 200",
+        new: "0 200",
+        told: (6, 17, 0),
+    },
+    // top 100001
+    Change {
+        old: "100000 200",
+        new: "100001 200",
+        told: (6, 17, 0),
+    },
+    // load above the top
+    Change {
+        old: "100000 200",
+        new: "100000 100001",
+        told: (6, 24, 0),
+    },
+    // a load that is no number
+    Change {
+        old: "100000 200",
+        new: "100000 x",
+        told: (5, 24, 0),
+    },
+    // 7 entries
+    Change {
+        old: "entries 8",
+        new: "entries 7",
+        told: (6, 47, 0),
+    },
+    // 9 entries
+    Change {
+        old: "entries 8",
+        new: "entries 9",
+        told: (6, 47, 0),
+    },
+    // entry 10001
+    Change {
+        old: "150 10",
+        new: "10001 10",
+        told: (6, 49, 0),
+    },
+    // entry 10000
+    Change {
+        old: "150 10 20",
+        new: "10000 10 20",
+        told: (15, 0, 1),
+    },
+    // an entry missing
+    Change {
+        old: "10 110 limits",
+        new: "10 limits",
+        told: (5, 71, 0),
+    },
+    // 33 limits
+    Change {
+        old: "limits 1",
+        new: "limits 33",
+        told: (6, 82, 0),
+    },
+    // place 3
+    Change {
+        old: "2 1 1 2 1",
+        new: "2 1 1 3 1",
+        told: (6, 96, 0),
+    },
+    // weight 1001
+    Change {
+        old: "2 1 1 2 1",
+        new: "2 1 1001 2 1",
+        told: (6, 94, 0),
+    },
+    // a place named twice
+    Change {
+        old: "2 1 1 2 1",
+        new: "2 1 1 1 1",
+        told: (10, 84, 0),
+    },
+    // a start of 3 places
+    Change {
+        old: "start 2",
+        new: "start 3",
+        told: (6, 7, 0),
+    },
+    // no row
+    Change {
+        old: "rows 7",
+        new: "rows 0",
+        told: (6, 26, 0),
+    },
+    // mode 3
+    Change {
+        old: "7 1 2 2",
+        new: "7 3 2 2",
+        told: (6, 28, 0),
+    },
+    // mode 9
+    Change {
+        old: "7 1 2 2",
+        new: "7 9 2 2",
+        told: (6, 28, 0),
+    },
+    // a bad byte
+    Change {
+        old: "entries",
+        new: "entr\x07ies",
+        told: (2, 43, 0),
+    },
+    // a mode missing
+    Change {
+        old: "1 2 2 2",
+        new: "1 2 2",
+        told: (3, 39, 0),
+    },
+    // the limit misses its term
+    Change {
+        old: "45600 2 1 1 2 1 start",
+        new: "45600 2 1 1 2 start",
+        told: (5, 98, 0),
     },
 ];

@@ -1,38 +1,33 @@
-use mathlib.Core.Path.{_≡_, ap, subst, _∙_}
-use lib.ListN.{drop}
-use Rattle.std.specs.Of.Vec.{vec-items}
-use Rattle.refusal.specs.Questions.{Told, then}
-use Rattle.network.specs.Code.{roads}
-use Rattle.network.specs.Network.{network}
-use Rattle.plan_sheet.specs.Accepts.{checked-sheet}
-use Rattle.std.specs.declared.result.Result.the-variants.{Err}
-use Rattle.records.specs.declared.fault.ModelFault.{ModelFault}
-use Rattle.network_sheet.specs.Network.{Content, Network-as, network-sheet}
-use Rattle.network_sheet.specs.Says.{Exactly}
-use Rattle.verdict.specs.declared.verdict.Verdict.the-variants.{Refused}
-use Rattle.verdict.specs.Judged.{verdict-of}
-use Rattle.verdict.proofs.Rightly.{right-read, right-refused}
+use mathlib.Core.Path.{_≡_, sym, _∙_}
+use mathlib.Core.Bool.{true, false}
+use mathlib.Core.Logic.{inl, inr, ⊎-elim}
+use Rattle.std.proofs.shelf.Results.{made-weaker}
+use Rattle.std.proofs.shelf.Tests.{cond-true, cond-false, both-ways}
+use Rattle.verdict.specs.Judged.{begins-linear, linear-verdict, network-verdict, verdict-on, Linear-said, Network-said, Model-said, Right}
+use Rattle.verdict.proofs.Rightly.{right-alike}
+use Rattle.verdict.proofs.Models.{network-begins, linear-begins}
 use Rattle.verdict.proofs.judge.judge.Needs as need
 
-pub returns-in-Ok : need.returns-in-Ok
-returns-in-Ok c =
+pub returns-then-is-linear : need.returns-then-is-linear
+returns-then-is-linear c =
     let bs = c .args .input .now in
-    let v = c .in-Ok .read in
-    let plan : c .judge-plan .result ≡ verdict-of (checked-sheet (network (roads (v .network))) (vec-items (v .limits)) (drop (v .end) bs)) =
-    c .judge-plan .ensures ∙ (λ i. verdict-of (checked-sheet (network (roads (v .network))) (c .as-slice .ensures .value i) (c .after .ensures i))) in
+    let first : begins-linear bs ≡ true = sym (c .if-is-linear .ensures tt) in
     record {
-      is = plan ∙ ap (λ (t : Told Content). verdict-of (then t (λ n. checked-sheet (network (n .roads)) (n .limits) (drop (n .end) bs)))) (c .in-Ok .ensures tt .is);
-      right = right-read bs v (c .in-Ok .ensures tt .exact) (c .judge-plan .result) plan;
+      is = made-weaker (c .judge-linear .result) (λ v. v ≡ linear-verdict bs) (λ v. v ≡ verdict-on bs) (λ v e. e ∙ sym (cond-true (begins-linear bs) (linear-verdict bs) (network-verdict bs) first)) (c .judge-linear .ensures .is);
+      right =
+          made-weaker (c .judge-linear .result) (Right (Linear-said bs) bs) (Right (Model-said bs) bs)
+          (right-alike (Linear-said bs) (Model-said bs) (λ m ls to s. inl s) (λ m ls to s. ⊎-elim (λ l. l) (λ n. absurd (both-ways (begins-linear bs) (network-begins bs m ls to n) first)) s) bs)
+          (c .judge-linear .ensures .right);
     }
 
-pub returns-in-Sheet : need.returns-in-Sheet
-returns-in-Sheet c =
+pub returns-else-is-linear : need.returns-else-is-linear
+returns-else-is-linear c =
     let bs = c .args .input .now in
-    let refused = subst (λ (e : ModelFault). Network-as (Err e) (network-sheet bs)) (c .in-Sheet .is) (c .in-Err .ensures tt .is) in
-    let exact = subst (λ (e : ModelFault). Exactly bs (Err e)) (c .in-Sheet .is) (c .in-Err .ensures tt .exact) in
+    let first : begins-linear bs ≡ false = sym (c .if-is-linear .ensures tt) in
     record {
-      is =
-          ap Refused (c .refusal .ensures)
-          ∙ ap (λ (t : Told Content). verdict-of (then t (λ n. checked-sheet (network (n .roads)) (n .limits) (drop (n .end) bs)))) refused;
-      right = right-refused bs (c .in-Sheet .fault) (c .refusal .result) exact;
+      is = made-weaker (c .judge-network .result) (λ v. v ≡ network-verdict bs) (λ v. v ≡ verdict-on bs) (λ v e. e ∙ sym (cond-false (begins-linear bs) (linear-verdict bs) (network-verdict bs) first)) (c .judge-network .ensures .is);
+      right =
+          made-weaker (c .judge-network .result) (Right (Network-said bs) bs) (Right (Model-said bs) bs)
+          (right-alike (Network-said bs) (Model-said bs) (λ m ls to s. inr s) (λ m ls to s. ⊎-elim (λ l. absurd (both-ways (begins-linear bs) first (linear-begins bs m ls to l))) (λ n. n) s) bs)
+          (c .judge-network .ensures .right);
     }

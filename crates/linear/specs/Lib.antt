@@ -1,0 +1,4 @@
+pub mod Sound
+pub mod Lines
+pub mod Parts
+pub mod Code

@@ -1,0 +1,3 @@
+mod PlaceExact
+mod Ranges
+mod Whole
