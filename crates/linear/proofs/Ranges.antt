@@ -1,14 +1,14 @@
 -- What the struct's invariant says of its lines, and what keeps the numbers of a step in range.
-use mathlib.Core.Path.{_≡_, refl, sym, ap, _∙_}
+use mathlib.Core.Path.{_≡_, sym, ap, _∙_}
 use mathlib.Core.List.{List, [], _∷_}
-use Prim.Native.Nat.{ℕ, zero, suc, _-_, _≤_, _<_}
+use Prim.Native.Nat.{ℕ, _-_, _≤_, _<_}
 use native.Mathlib.Omega.{arith}
 use lib.Dec.{leb}
 use lib.ListN.{length, getD}
 use Rattle.std.proofs.shelf.Tests.{leb-true}
-use Rattle.model.specs.State.{capped, told}
+use Rattle.model.specs.State.{capped}
 use Rattle.model.specs.Model.{lit}
-use Rattle.model.proofs.State.{capped-below, told-at, every-at}
+use Rattle.model.proofs.State.{capped-below, told-at, every-at, told-none}
 use Rattle.model.proofs.Core.{lit-fits}
 use Rattle.linear.specs.declared.place.Place.{Place}
 use Rattle.linear.specs.declared.linear.Linear.{Linear}
@@ -20,11 +20,6 @@ use Rattle.linear.proofs.Sizes.{length-tops, length-loads, top-high, top-past,
 pub sound : (m : Linear) → Sound (lines m)
 sound m =
     record { moded = m .moded; short = m .short; some = m .some; few = m .few; placed = m .placed; full = m .full; entered = m .entered }
-
--- what is told of a place that the model does not have
-told-none : (xs : List ℕ) (n p : ℕ) → (1 ≤ p → n < p) → ((k : ℕ) → n ≤ k → getD xs k 0 ≡ 0) → told xs p ≡ 0
-told-none xs n zero h z = refl
-told-none xs n (suc k) h z = z k (omega (arith, h (omega arith)))
 
 pub none-of : (n : Lines) → Sound n → (p : ℕ) → (1 ≤ p → length (n .places) < p) → None-of n p
 none-of n ok p h =

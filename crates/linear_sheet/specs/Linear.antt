@@ -1,19 +1,14 @@
 -- A whole linear model sheet: the sections `modes`, `places`, `entries` and `limits`, one after the other.
-use mathlib.Core.Path.{_≡_}
 use mathlib.Core.List.{List}
 use Prim.Native.Nat.{ℕ}
 use lib.Chars.{codes}
 use lib.ListN.{length}
 use Rattle.std.specs.Of.Vec.{vec-items}
-use Rattle.std.specs.declared.result.Result.{Result}
-use Rattle.std.specs.declared.result.Result.the-variants.{Ok, Err}
+use Rattle.std.specs.declared.result.Result.the-variants.{Ok}
 use Rattle.refusal.specs.Questions.{Told, then}
 use Rattle.words.specs.declared.number.Reading.{Reading}
-use Rattle.words.specs.Faults.{sheet-refusal}
 use Rattle.words.specs.Words.{short-sheet}
 use Rattle.words.specs.Numbers.{number-at, section-at}
-use Rattle.records.specs.declared.fault.ModelFault.{ModelFault}
-use Rattle.records.specs.declared.fault.ModelFault.the-variants.{Sheet, Memory}
 use Rattle.records.specs.Sections.{Items, section-of}
 use Rattle.linear.specs.declared.place.Place.{Place}
 use Rattle.linear.specs.Lines.{Lines}
@@ -56,9 +51,3 @@ linear-sheet bs = then (short-sheet bs) (λ _. sections bs)
 
 abbrev pub content : LinearRead → Content
 content v = record { lines = lines (v .model); limits = vec-items (v .limits); end = v .end }
-
--- the answer is what the sheet says, unless there was no memory
-abbrev pub Linear-as : Result LinearRead ModelFault → Told Content → Type 0
-Linear-as (Ok v) t = Ok (content v) ≡ t
-Linear-as (Err (Sheet e)) t = Err (sheet-refusal e) ≡ t
-Linear-as (Err Memory) t = Unit {0}

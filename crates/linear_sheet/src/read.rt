@@ -3,9 +3,9 @@ ghost use mathlib.Core.Path.{_≡_};
 ghost use Prim.Native.Nat.{_≤_};
 ghost use Rattle.std.specs.Vec.{made};
 ghost use Rattle.words.specs.Faults.{told};
-ghost use Rattle.records.specs.Sections.{Listed-as};
-ghost use Rattle.linear_sheet.specs.Linear.{modes-section, places-section, entries-section, sections, linear-sheet, Linear-as};
-ghost use Rattle.linear_sheet.specs.Says.{Exactly};
+ghost use Rattle.records.specs.Sections.{Told-as, Listed-as, Exactly};
+ghost use Rattle.linear_sheet.specs.Linear.{modes-section, places-section, entries-section, sections, linear-sheet, content};
+ghost use Rattle.linear_sheet.specs.Says.{Says};
 use crate::place::EntryIsRecord;
 use crate::place::EntryRecord;
 use crate::place::PlaceIsRecord;
@@ -66,7 +66,7 @@ fn entries_section(
 
 // The four sections, one after the other.
 fn read_sections(heap: Global, bytes: &[u8]) -> Result<LinearRead, ModelFault>
-    ensures { λ r. ⌜ Linear-as r (sections (now (bytes .entry))) ⌝ }
+    ensures { λ r. ⌜ Told-as content r (sections (now (bytes .entry))) ⌝ }
 {
     let modes = modes_section(bytes, 0)?;
     let places = places_section(heap, bytes, modes.end)?;
@@ -87,8 +87,8 @@ fn read_sections(heap: Global, bytes: &[u8]) -> Result<LinearRead, ModelFault>
 
 // The linear model and the limits that a sheet says.
 pub fn read_linear(heap: Global, bytes: &[u8]) -> Result<LinearRead, ModelFault>
-    ensures is { λ r. ⌜ Linear-as r (linear-sheet (now (bytes .entry))) ⌝ }
-    ensures exact { λ r. ⌜ Exactly (now (bytes .entry)) r ⌝ }
+    ensures is { λ r. ⌜ Told-as content r (linear-sheet (now (bytes .entry))) ⌝ }
+    ensures exact { λ r. ⌜ Exactly content (Says (now (bytes .entry))) r ⌝ }
 {
     short_enough(bytes)?;
     read_sections(heap, bytes)

@@ -116,9 +116,13 @@ told-at xs (suc k) h = let e : k ≡ suc k - 1 = omega arith in ap (λ j. getD x
 pub told-next : (xs : List ℕ) (k : ℕ) → told xs (k + 1) ≡ getD xs k 0
 told-next xs k = rw add-one refl
 
-pub told-outside : (xs : List ℕ) (p : ℕ) → (0 < p → length xs < p) → told xs p ≡ 0
-told-outside xs zero h = refl
-told-outside xs (suc k) h = getD-past xs k 0 (omega (arith, h (omega arith)))
+-- what is told of a place beyond the last, where there is nothing
+pub told-none : (xs : List ℕ) (n p : ℕ) → (1 ≤ p → n < p) → ((k : ℕ) → n ≤ k → getD xs k 0 ≡ 0) → told xs p ≡ 0
+told-none xs n zero h z = refl
+told-none xs n (suc k) h z = z k (omega (arith, h (omega arith)))
+
+pub told-outside : (xs : List ℕ) (p : ℕ) → (1 ≤ p → length xs < p) → told xs p ≡ 0
+told-outside xs p h = told-none xs (length xs) p h (λ k l. getD-past xs k 0 l)
 
 pub filled-whole : (f : ℕ → ℕ) (n : ℕ) (xs : List ℕ) → 64 ≤ n → Filled f n xs → xs ≡ whole f
 filled-whole f n xs h t = whole-is f xs (t .size) (λ k l. t .done k (omega arith))

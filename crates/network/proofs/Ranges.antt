@@ -1,12 +1,12 @@
 -- What the struct's invariant says of its roads, and what keeps the numbers of a step in range.
-use mathlib.Core.Path.{_≡_, refl, sym, ap, subst, _∙_}
+use mathlib.Core.Path.{_≡_, sym, ap, subst, _∙_}
 use mathlib.Core.List.{List}
-use Prim.Native.Nat.{ℕ, zero, suc, _-_, _≤_, _<_}
+use Prim.Native.Nat.{ℕ, _-_, _≤_, _<_}
 use native.Mathlib.Omega.{arith}
 use lib.ListN.{length, getD}
 use Rattle.model.specs.State.{capped, told}
 use Rattle.model.specs.Model.{lit}
-use Rattle.model.proofs.State.{capped-below, told-at}
+use Rattle.model.proofs.State.{capped-below, told-at, told-none}
 use Rattle.network.specs.declared.links.Link.{Link}
 use Rattle.network.specs.declared.network.Network.{Network}
 use Rattle.network.specs.Code.{roads}
@@ -18,11 +18,6 @@ use Rattle.network.proofs.Sizes.{length-tops, length-loads, top-high, top-past
 
 pub sound : (m : Network) → Sound (roads m)
 sound m = record { phased = m .phased; some = m .some; few = m .few; linked = m .linked; short = m .short; turned = m .turned }
-
--- what is told of a place that is not a link's
-told-none : (xs : List ℕ) (n p : ℕ) → (1 ≤ p → n < p) → ((k : ℕ) → n ≤ k → getD xs k 0 ≡ 0) → told xs p ≡ 0
-told-none xs n zero h z = refl
-told-none xs n (suc k) h z = z k (omega (arith, h (omega arith)))
 
 module _ (n : Roads) (ok : Sound n) (p : ℕ) (h : 1 ≤ p → length (n .links) < p) where
   pub none-of : None-of n p

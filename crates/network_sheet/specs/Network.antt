@@ -1,17 +1,12 @@
 -- A whole network sheet: the sections `signals`, `links`, `turns` and `limits`, one after the other.
-use mathlib.Core.Path.{_≡_}
 use mathlib.Core.List.{List}
 use Prim.Native.Nat.{ℕ}
 use lib.Chars.{codes}
 use lib.ListN.{length}
 use Rattle.std.specs.Of.Vec.{vec-items}
-use Rattle.std.specs.declared.result.Result.{Result}
-use Rattle.std.specs.declared.result.Result.the-variants.{Ok, Err}
+use Rattle.std.specs.declared.result.Result.the-variants.{Ok}
 use Rattle.refusal.specs.Questions.{Told, then}
-use Rattle.words.specs.Faults.{sheet-refusal}
 use Rattle.words.specs.Words.{short-sheet}
-use Rattle.records.specs.declared.fault.ModelFault.{ModelFault}
-use Rattle.records.specs.declared.fault.ModelFault.the-variants.{Sheet, Memory}
 use Rattle.records.specs.Sections.{Items, section-of}
 use Rattle.network.specs.declared.links.Link.{Link}
 use Rattle.network.specs.declared.links.Turn.{Turn}
@@ -55,9 +50,3 @@ network-sheet bs = then (short-sheet bs) (λ _. sections bs)
 
 abbrev pub content : NetworkRead → Content
 content v = record { roads = roads (v .network); limits = vec-items (v .limits); end = v .end }
-
--- the answer is what the sheet says, unless there was no memory
-abbrev pub Network-as : Result NetworkRead ModelFault → Told Content → Type 0
-Network-as (Ok v) t = Ok (content v) ≡ t
-Network-as (Err (Sheet e)) t = Err (sheet-refusal e) ≡ t
-Network-as (Err Memory) t = Unit {0}

@@ -2,9 +2,9 @@
 ghost use Prim.Native.Nat.{_≤_};
 ghost use lib.ListN.{length};
 ghost use Rattle.limit_sheet.specs.Limits.{limits-section};
-ghost use Rattle.records.specs.Sections.{Listed-as};
-ghost use Rattle.network_sheet.specs.Network.{signals-section, links-section, turns-section, sections, network-sheet, Network-as};
-ghost use Rattle.network_sheet.specs.Says.{Exactly};
+ghost use Rattle.records.specs.Sections.{Told-as, Listed-as, Exactly};
+ghost use Rattle.network_sheet.specs.Network.{signals-section, links-section, turns-section, sections, network-sheet, content};
+ghost use Rattle.network_sheet.specs.Says.{Says};
 use crate::link::LinkIsRecord;
 use crate::link::LinkRecord;
 use crate::link::SignalIsRecord;
@@ -87,7 +87,7 @@ fn limits_section(
 
 // The four sections, one after the other.
 fn read_sections(heap: Global, bytes: &[u8]) -> Result<NetworkRead, ModelFault>
-    ensures { λ r. ⌜ Network-as r (sections (now (bytes .entry))) ⌝ }
+    ensures { λ r. ⌜ Told-as content r (sections (now (bytes .entry))) ⌝ }
 {
     let signals = signals_section(heap, bytes, 0)?;
     let links = links_section(heap, bytes, signals.end, signals.items.as_slice())?;
@@ -107,8 +107,8 @@ fn read_sections(heap: Global, bytes: &[u8]) -> Result<NetworkRead, ModelFault>
 
 // The network and the limits that a sheet says.
 pub fn read_network(heap: Global, bytes: &[u8]) -> Result<NetworkRead, ModelFault>
-    ensures is { λ r. ⌜ Network-as r (network-sheet (now (bytes .entry))) ⌝ }
-    ensures exact { λ r. ⌜ Exactly (now (bytes .entry)) r ⌝ }
+    ensures is { λ r. ⌜ Told-as content r (network-sheet (now (bytes .entry))) ⌝ }
+    ensures exact { λ r. ⌜ Exactly content (Says (now (bytes .entry))) r ⌝ }
 {
     short_enough(bytes)?;
     read_sections(heap, bytes)

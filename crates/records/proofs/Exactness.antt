@@ -1,6 +1,7 @@
 -- A section is read exactly where it stands.
 use mathlib.Core.Path.{_≡_, refl, sym, ap, subst, _∙_}
 use mathlib.Core.Bool.{false}
+use mathlib.Core.Logic.{inl, inr}
 use mathlib.Core.List.{List, [], _∷_, _++_, append-assoc}
 use Prim.Native.Nat.{ℕ, zero, suc, _+_, _-_, _^_, _≤_, _<_}
 use native.Mathlib.Omega.{arith}
@@ -8,15 +9,18 @@ use lib.ListN.{length, getD}
 use Rattle.std.specs.Written.{decimal}
 use Rattle.std.specs.shelf.Lists.{All}
 use Rattle.std.proofs.shelf.Elements.{all-getD}
-use Rattle.std.specs.declared.result.Result.the-variants.{Ok}
-use Rattle.refusal.specs.Questions.{then, turns}
+use Rattle.std.specs.declared.result.Result.{Result}
+use Rattle.std.specs.declared.result.Result.the-variants.{Ok, Err}
+use Rattle.refusal.specs.Questions.{Told, then, turns}
 use Rattle.refusal.proofs.Turning.{then-ok, then-parts, ok-same}
 use Rattle.words.specs.Words.{numeral}
 use Rattle.words.specs.Numbers.{number-at, section-at}
 use Rattle.words.specs.Spelling.{Next}
 use Rattle.words.proofs.Due.{number-stands, number-read, section-stands, section-read}
 use Rattle.records.specs.declared.Recorded.{Recorded}
-use Rattle.records.specs.Sections.{Reader, Items, next-record, records-at, section-of, Saying, Said, Section}
+use Rattle.records.specs.declared.fault.ModelFault.{ModelFault}
+use Rattle.records.specs.declared.fault.ModelFault.the-variants.{Sheet, Memory}
+use Rattle.records.specs.Sections.{Reader, Items, next-record, records-at, section-of, Saying, Said, Section, Told-as, Exactly}
 
 -- a record is accepted exactly where it says what was read
 pub record Exact {A : Type 0} (read : Reader A) (R : Saying A) : Type 0 where
@@ -100,3 +104,11 @@ pub kept : {A : Type 0} (read : Reader A) (R : Saying A) → Exact read R → (P
 kept read R exact P d each bs word at low high t h =
     let s = section-stands-as read R exact bs word at low high t (sym h) in
     record { enough = s .enough; few = s .few; each = λ k l. all-getD P (t .items) k d l (said-all R P each [] (s .counted) (t .items) (t .end) (s .records)) }
+
+-- a reader that tells what the sheet says, where that is told exactly of what stands there, reads exactly that
+pub exactly : {V C : Type 0} (view : V → C) (Says : C → Type 0) (t : Told C) → ((c : C) → t ≡ Ok c → Says c) → ((c : C) → Says c → t ≡ Ok c) → (r : Result V ModelFault) → Told-as view r t → Exactly view Says r
+exactly view Says t stands read (Ok v) is =
+    record { says = λ c e. stands c (sym is ∙ ap Ok e); reads = λ c s. inl (ok-same (is ∙ read c s)) }
+exactly view Says t stands read (Err (Sheet e)) is =
+    record { says = λ c z. absurd z; reads = λ c s. absurd (let z : _≡_ {A = ℕ} 0 1 = cc (is, read c s) in omega arith) }
+exactly view Says t stands read (Err Memory) is = record { says = λ c z. absurd z; reads = λ c s. inr refl }

@@ -1,5 +1,6 @@
 -- Sections of a sheet: a section word, a count in its range, and as many records, each read beside those before it.
 use mathlib.Core.Path.{_≡_}
+use mathlib.Core.Logic.{_⊎_}
 use mathlib.Core.List.{List, [], _∷_, _++_}
 use Prim.Native.Nat.{ℕ, _≤_}
 use lib.ListN.{length}
@@ -38,11 +39,27 @@ abbrev pub section-of : {A : Type 0} → Reader A → List ℕ → ℕ → List 
 section-of read bs at word low high =
     then (section-at bs at word) (λ a. then (number-at bs a low high) (λ n. records-at read (n .end) (n .value)))
 
--- the answer is what the sheet says, unless there was no memory
+-- the answer is what the sheet says, unless there was no memory; a value counts by what it is seen as
+abbrev pub Told-as : {V C : Type 0} → (V → C) → Result V ModelFault → Told C → Type 0
+Told-as view (Ok v) t = Ok (view v) ≡ t
+Told-as view (Err (Sheet e)) t = Err (sheet-refusal e) ≡ t
+Told-as view (Err Memory) t = Unit {0}
+
+abbrev pub items-of : {A : Type 0} → Listed A → Items A
+items-of v = record { items = vec-items (v .items); end = v .end }
+
 abbrev pub Listed-as : {A : Type 0} → Result (Listed A) ModelFault → Told (Items A) → Type 0
-Listed-as (Ok v) t = Ok (record { items = vec-items (v .items); end = v .end }) ≡ t
-Listed-as (Err (Sheet e)) t = Err (sheet-refusal e) ≡ t
-Listed-as (Err Memory) t = Unit {0}
+Listed-as r t = Told-as items-of r t
+
+-- the answer is a value that is seen as c
+abbrev pub Read-as : {V C : Type 0} → (V → C) → Result V ModelFault → C → Type 0
+Read-as view (Ok v) c = view v ≡ c
+Read-as view (Err e) c = ⊥
+
+-- what is read is what the sheet says; and what the sheet says is read, unless there is no memory
+pub record Exactly {V C : Type 0} (view : V → C) (Says : C → Type 0) (r : Result V ModelFault) : Type 0 where
+  pub says : (c : C) → Read-as view r c → Says c
+  pub reads : (c : C) → Says c → Read-as view r c ⊎ (r ≡ Err Memory)
 
 -- what it means for a record to say something: beside those before it, from a place on, up to where it ends
 abbrev pub Saying : Type 0 → Type 1

@@ -1,4 +1,4 @@
--- What is read of a model sheet is the one model that the input says, and the first word tells of which kind it is.
+-- The verdict on what is read of a model sheet, once for every kind of model, and what tells the kinds apart.
 use mathlib.Core.Path.{_≡_, refl, sym, ap, subst, _∙_}
 use mathlib.Core.Bool.{true, false}
 use mathlib.Core.Logic.{⊎-elim}
@@ -7,77 +7,73 @@ use Prim.Native.Nat.{ℕ}
 use native.Mathlib.Omega.{arith}
 use lib.Chars.{codes}
 use lib.ListN.{drop}
-use Rattle.std.specs.Of.Vec.{vec-items}
 use Rattle.std.specs.Results.{isOk}
 use Rattle.std.specs.Vec.{made}
 use Rattle.std.specs.declared.result.Result.{Result}
 use Rattle.std.specs.declared.result.Result.the-variants.{Ok, Err}
 use Rattle.std.proofs.shelf.Results.{made-from-err}
 use Rattle.refusal.specs.Questions.{Told, then}
+use Rattle.refusal.proofs.Turning.{then-ok}
 use Rattle.words.specs.Faults.{sheet-refusal}
-use Rattle.records.specs.declared.fault.ModelFault.{ModelFault}
-use Rattle.records.specs.declared.fault.ModelFault.the-variants.{Sheet, Memory}
-use Rattle.words.specs.declared.fault.SheetFault.{SheetFault}
 use Rattle.words.specs.Numbers.{as-section}
 use Rattle.words.proofs.Spelled.{next-read}
 use Rattle.words.proofs.Due.{section-read}
-use Rattle.refusal.proofs.Turning.{then-ok}
-use Rattle.model.specs.Model.{Meaning}
-use Rattle.network.specs.Code.{roads}
-use Rattle.network.specs.Network.{network}
-use Rattle.linear.specs.Code.{lines}
-use Rattle.linear.specs.Lines.{linear}
+use Rattle.records.specs.declared.fault.ModelFault.{ModelFault}
+use Rattle.records.specs.declared.fault.ModelFault.the-variants.{Sheet, Memory}
+use Rattle.records.specs.Sections.{Told-as, Exactly}
+use Rattle.model.specs.Model.{Meaning, Lawful}
 use Rattle.plan.specs.declared.limits.Limit.{Limit}
-use Rattle.network_sheet.specs.declared.read.NetworkRead.{NetworkRead}
-use Rattle.network_sheet.specs.Network.{Content as Network-content, Network-as, network-sheet}
-use Rattle.network_sheet.specs.Says.{Exactly as Network-exactly}
-use Rattle.linear_sheet.specs.declared.read.LinearRead.{LinearRead}
-use Rattle.linear_sheet.specs.Linear.{Content as Linear-content, Linear-as, linear-sheet}
-use Rattle.linear_sheet.specs.Says.{Exactly as Linear-exactly}
 use Rattle.plan_sheet.specs.Accepts.{checked-sheet}
 use Rattle.verdict.specs.declared.verdict.Verdict.{Verdict}
-use Rattle.verdict.specs.Judged.{verdict-of, Faulted, network-verdict, linear-verdict, begins-linear, Network-said, Linear-said, Right}
-use Rattle.verdict.proofs.Rightly.{right-refused}
+use Rattle.verdict.specs.Judged.{verdict-of, Faulted, begins-linear, Network-said, Linear-said, Right}
+use Rattle.verdict.proofs.Rightly.{right-read, right-refused}
 
-module _ (bs : List ℕ) where
-  pub one-network : (v : NetworkRead) → Network-exactly bs (Ok v) → (m : Meaning) (ls : List Limit) (to : ℕ) → Network-said bs m ls to → (network (roads (v .network)) ≡ m) × (vec-items (v .limits) ≡ ls) × (v .end ≡ to)
-  one-network v x m ls to s =
-      ⊎-elim
-      (λ e. (ap network (e .0) ∙ sym (s .means), e .1, e .2))
-      (λ e. absurd (let z : _≡_ {A = ℕ} 0 1 = cc in omega arith))
-      (x .reads (s .roads) ls to (s .words))
+-- what a kind of model sheet says, with what it means, its limits and its end
+pub record Kind (C : Type 0) (Says : C → Type 0) (Said : Meaning → List Limit → ℕ → Type 0) : Type 0 where
+  pub meaning : C → Meaning
+  pub limits : C → List Limit
+  pub end : C → ℕ
+  pub said : (c : C) → Says c → Said (meaning c) (limits c) (end c)
+  pub content : (m : Meaning) (ls : List Limit) (to : ℕ) → Said m ls to → C
+  pub says : (m : Meaning) (ls : List Limit) (to : ℕ) (s : Said m ls to) → Says (content m ls to s)
+  pub means : (m : Meaning) (ls : List Limit) (to : ℕ) (s : Said m ls to) → meaning (content m ls to s) ≡ m
+  pub limited : (m : Meaning) (ls : List Limit) (to : ℕ) (s : Said m ls to) → limits (content m ls to s) ≡ ls
+  pub ended : (m : Meaning) (ls : List Limit) (to : ℕ) (s : Said m ls to) → end (content m ls to s) ≡ to
 
-  pub no-network : (f : SheetFault) → Network-exactly bs (Err (Sheet f)) → (m : Meaning) (ls : List Limit) (to : ℕ) → Network-said bs m ls to → ⊥
-  no-network f x m ls to s = ⊎-elim (λ none. none) (λ e. let z : _≡_ {A = ℕ} 0 1 = cc in omega arith) (x .reads (s .roads) ls to (s .words))
+module _ {C : Type 0} {Says : C → Type 0} {Said : Meaning → List Limit → ℕ → Type 0} (K : Kind C Says Said) (bs : List ℕ) where
+  -- the plan sheet after the model sheet
+  abbrev pub next : C → Told ℕ
+  next c = checked-sheet (K .meaning c) (K .limits c) (drop (K .end c) bs)
 
-  pub one-linear : (v : LinearRead) → Linear-exactly bs (Ok v) → (m : Meaning) (ls : List Limit) (to : ℕ) → Linear-said bs m ls to → (linear (lines (v .model)) ≡ m) × (vec-items (v .limits) ≡ ls) × (v .end ≡ to)
-  one-linear v x m ls to s =
-      ⊎-elim
-      (λ e. (ap linear (e .0) ∙ sym (s .means), e .1, e .2))
-      (λ e. absurd (let z : _≡_ {A = ℕ} 0 1 = cc in omega arith))
-      (x .reads (s .lines) ls to (s .words))
+  module _ {V : Type 0} (view : V → C) (t : Told C) where
+    -- where a model was read
+    pub judged-read : (v : V) → Lawful (K .meaning (view v)) → Told-as view (Ok v) t → Exactly view Says (Ok v) → (w : Verdict) → w ≡ verdict-of (next (view v)) → (w ≡ verdict-of (then t next)) × Right Said bs w
+    judged-read v law is x w e = (
+      e ∙ ap (λ u. verdict-of (then u next)) is,
+      right-read Said bs (K .meaning (view v)) law (K .limits (view v)) (K .end (view v)) (K .said (view v) (x .says (view v) refl)) one w e,
+    )
+      where
+        one : (m : Meaning) (ls : List Limit) (to : ℕ) → Said m ls to → (K .meaning (view v) ≡ m) × (K .limits (view v) ≡ ls) × (K .end (view v) ≡ to)
+        one m ls to s =
+            ⊎-elim
+            (λ c. (ap (K .meaning) c ∙ K .means m ls to s, ap (K .limits) c ∙ K .limited m ls to s, ap (K .end) c ∙ K .ended m ls to s))
+            (λ c. absurd (let z : _≡_ {A = ℕ} 0 1 = cc in omega arith))
+            (x .reads (K .content m ls to s) (K .says m ls to s))
 
-  pub no-linear : (f : SheetFault) → Linear-exactly bs (Err (Sheet f)) → (m : Meaning) (ls : List Limit) (to : ℕ) → Linear-said bs m ls to → ⊥
-  no-linear f x m ls to s = ⊎-elim (λ none. none) (λ e. let z : _≡_ {A = ℕ} 0 1 = cc in omega arith) (x .reads (s .lines) ls to (s .words))
+    -- where none was read
+    pub judged-fault : {E : Type 0} (why : ModelFault) (r : Result Verdict E) → Faulted why r → Told-as view (Err why) t → Exactly view Says (Err why) → made r (λ w. w ≡ verdict-of (then t next)) × made r (Right Said bs)
+    judged-fault (Sheet f) r e is x =
+        subst (λ q. made q (λ w. w ≡ verdict-of (then t next)) × made q (Right Said bs)) (sym e)
+        (ap (λ u. verdict-of (then u next)) is, right-refused Said bs none (sheet-refusal f))
+      where
+        none : (m : Meaning) (ls : List Limit) (to : ℕ) → Said m ls to → ⊥
+        none m ls to s = ⊎-elim (λ z. z) (λ c. let z : _≡_ {A = ℕ} 0 1 = cc in omega arith) (x .reads (K .content m ls to s) (K .says m ls to s))
+    judged-fault Memory r e is x = (made-from-err r (λ w. w ≡ verdict-of (then t next)) e, made-from-err r (Right Said bs) e)
 
-  -- a network sheet does not begin as a linear one
-  pub network-begins : (m : Meaning) (ls : List Limit) (to : ℕ) → Network-said bs m ls to → begins-linear bs ≡ false
-  network-begins m ls to s =
-      ap isOk (then-ok (as-section (codes "modes")) (next-read bs 0 (codes "signals") _ (s .words .signals .word-stands)))
+-- a network sheet does not begin as a linear one
+pub network-begins : (bs : List ℕ) (m : Meaning) (ls : List Limit) (to : ℕ) → Network-said bs m ls to → begins-linear bs ≡ false
+network-begins bs m ls to s =
+    ap isOk (then-ok (as-section (codes "modes")) (next-read bs 0 (codes "signals") _ (s .words .signals .word-stands)))
 
-  pub linear-begins : (m : Meaning) (ls : List Limit) (to : ℕ) → Linear-said bs m ls to → begins-linear bs ≡ true
-  linear-begins m ls to s = ap isOk (section-read bs 0 (codes "modes") _ refl (s .words .modes .word-stands))
-
-  -- the verdict where no network was read
-  pub faulted-network : {E : Type 0} (why : ModelFault) (r : Result Verdict E) → Faulted why r → Network-as (Err why) (network-sheet bs) → Network-exactly bs (Err why) → made r (λ v. v ≡ network-verdict bs) × made r (Right (Network-said bs) bs)
-  faulted-network (Sheet f) r e t x =
-      subst (λ q. made q (λ v. v ≡ network-verdict bs) × made q (Right (Network-said bs) bs)) (sym e)
-      (ap (λ (u : Told Network-content). verdict-of (then u (λ n. checked-sheet (network (n .roads)) (n .limits) (drop (n .end) bs)))) t, right-refused (Network-said bs) bs (no-network f x) (sheet-refusal f))
-  faulted-network Memory r e t x = (made-from-err r (λ v. v ≡ network-verdict bs) e, made-from-err r (Right (Network-said bs) bs) e)
-
-  -- the verdict where no linear model was read
-  pub faulted-linear : {E : Type 0} (why : ModelFault) (r : Result Verdict E) → Faulted why r → Linear-as (Err why) (linear-sheet bs) → Linear-exactly bs (Err why) → made r (λ v. v ≡ linear-verdict bs) × made r (Right (Linear-said bs) bs)
-  faulted-linear (Sheet f) r e t x =
-      subst (λ q. made q (λ v. v ≡ linear-verdict bs) × made q (Right (Linear-said bs) bs)) (sym e)
-      (ap (λ (u : Told Linear-content). verdict-of (then u (λ n. checked-sheet (linear (n .lines)) (n .limits) (drop (n .end) bs)))) t, right-refused (Linear-said bs) bs (no-linear f x) (sheet-refusal f))
-  faulted-linear Memory r e t x = (made-from-err r (λ v. v ≡ linear-verdict bs) e, made-from-err r (Right (Linear-said bs) bs) e)
+pub linear-begins : (bs : List ℕ) (m : Meaning) (ls : List Limit) (to : ℕ) → Linear-said bs m ls to → begins-linear bs ≡ true
+linear-begins bs m ls to s = ap isOk (section-read bs 0 (codes "modes") _ refl (s .words .modes .word-stands))

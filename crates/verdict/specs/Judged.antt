@@ -56,13 +56,13 @@ verdict-on bs = cond (begins-linear bs) (linear-verdict bs) (network-verdict bs)
 pub record Network-said (bs : List ℕ) (m : Meaning) (ls : List Limit) (to : ℕ) : Type 0 where
   pub roads : Roads
   pub means : m ≡ network roads
-  pub words : Says-network bs roads ls to
+  pub words : Says-network bs (record { roads = roads; limits = ls; end = to })
 
 -- the same of a linear model
 pub record Linear-said (bs : List ℕ) (m : Meaning) (ls : List Limit) (to : ℕ) : Type 0 where
   pub lines : Lines
   pub means : m ≡ linear lines
-  pub words : Says-linear bs lines ls to
+  pub words : Says-linear bs (record { lines = lines; limits = ls; end = to })
 
 abbrev pub Model-said : List ℕ → Meaning → List Limit → ℕ → Type 0
 Model-said bs m ls to = Linear-said bs m ls to ⊎ Network-said bs m ls to
