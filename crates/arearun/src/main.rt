@@ -1,4 +1,6 @@
 // Reads a model sheet and then a day sheet from standard input, and prints a line for each call of the day.
+#![tactic(auto)]
+
 use day::day::run_day;
 use std::io;
 use std::io::Read;

@@ -1,4 +1,6 @@
 // The limits of a model sheet: each a bound, a count of terms, and a place and a weight for each term.
+#![tactic(auto)]
+
 ghost use Rattle.std.specs.Prelude.{◌≡◌, ◌≤◌};
 ghost use Rattle.words.specs.Faults.{told};
 ghost use Rattle.limit_sheet.specs.Limits.{named_in, repeated, term_at, terms_at, limit_at, limits_section};

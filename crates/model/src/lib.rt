@@ -1,6 +1,8 @@
 // Models: what steps a state of queues by a row of signal modes and by arrivals.
 // A state is sixty-four numbers, one for each place; a row is thirty-two modes, one for each signal.
 // Places and signals are numbered from 1, and a question out of range answers 0.
+#![tactic(auto)]
+
 ghost use Rattle.std.specs.Prelude.{◌≡◌};
 ghost use Rattle.model.specs.State.{told};
 ghost use Rattle.model.specs.Model.{Meaning, Lawful, dark_row, stepped};

@@ -1,3 +1,5 @@
 // Link networks: junctions, links of road and turns, and how their queues move in a step.
+#![tactic(auto)]
+
 pub mod links;
 pub mod network;

@@ -1,4 +1,6 @@
 // Reads a model sheet and then a plan sheet from standard input, and prints the verdict in one line.
+#![tactic(auto)]
+
 use std::io;
 use std::io::Read;
 use verdict::judge::judge;

@@ -1,4 +1,6 @@
 // Sections of a model sheet: a section word, a count, and as many records.
+#![tactic(auto)]
+
 ghost use Rattle.std.specs.Prelude.{◌≡◌, ℕ, List};
 ghost use Rattle.refusal.specs.Questions.{Told};
 ghost use Rattle.words.specs.Faults.{told};

@@ -1,4 +1,6 @@
 // Streets: what takes a row and moves its queues.
+#![tactic(auto)]
+
 ghost use Rattle.std.specs.Prelude.{◌≡◌};
 ghost use Rattle.model.specs.State.{told};
 ghost use Rattle.street.specs.Street.{Seen, Showed, Bounded};

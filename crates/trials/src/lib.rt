@@ -1,3 +1,5 @@
 // Trials of the whole way from a sheet to its verdict.
+#![tactic(auto)]
+
 #[cfg(test)]
 mod tests;
