@@ -5,7 +5,7 @@ use Rattle.limit_sheet.proofs.read_terms.Goals as goal
 
 pub returns-in-err-read : goal.returns-in-err-read
 returns-in-err-read c =
-    let p = err_from_is_err_and c.from-residual.result c.from-residual.ensures.1 in
+    let p = err_from_is_err_and c.from_residual.result c.from_residual.ensures.1 in
     rw (p.1, p.2) (breaks_off _ _ _ _ _ c.loop-k.invariant c.loop-k-test.true _ c.in-err-read.ensures refl)
 
 pub loop-k-preserved : goal.loop-k-preserved

@@ -8,5 +8,5 @@ overflow-add-result g c =
     let p = plan_said c.in-ok-plan.plan in
     let says = (c.in-ok-plan.ensures.exact p).0 refl in
     let end = c.in-ok-number.number.end in
-    let w : end + p.end ≤ length c.args.bytes.now = plan_within _ c.args.bytes.now _ end p c.rest-of.ensures says in
+    let w : end + p.end ≤ length c.args.bytes.now = plan_within _ c.args.bytes.now _ end p c.rest_of.ensures says in
     search rules

@@ -11,13 +11,13 @@ returns-then-written g c =
     let h = held c.args.shift.hand in
     let call = c.args.call in
     let q = area_call c.args.sheet.now call h in
-    let r = c.run-call-done.result in
-    let b = c.run-call-done.new.area in
-    let x = c.run-call-done.ensures.does in
+    let r = c.run_call-done.result in
+    let b = c.run_call-done.new.area in
+    let x = c.run_call-done.ensures.does in
     record {
-      safe = c.run-call-done.ensures.safe;
+      safe = c.run_call-done.ensures.safe;
       model = ran_model meaning seen q call a h r.done b (held r.hand) x;
       limits = ran_limits meaning seen q call a h r.done b (held r.hand) x;
       all = λ _. c.if-written.true;
-      line = λ e. (r.done, ran_runs meaning seen q call a h r.done b (held r.hand) x, where_ok c.write-line-line.result _ c.write-line-line.ensures (sym c.is-ok.ensures.value ∙ e));
+      line = λ e. (r.done, ran_runs meaning seen q call a h r.done b (held r.hand) x, where_ok c.write_line-line.result _ c.write_line-line.ensures (sym c.is_ok.ensures.value ∙ e));
     }

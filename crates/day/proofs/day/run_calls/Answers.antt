@@ -6,7 +6,7 @@ use Rattle.day.proofs.day.run_calls.Goals as goal
 pub loop-call-preserved : goal.loop-call-preserved
 loop-call-preserved g c =
     let l = c.loop-call in
-    let x = c.next-line-shift in
+    let x = c.next_line-shift in
     so_far_more g.S.Model.meaning g.S.Street.seen c.args.sheet.now c.args.places c.args.calls.now c.args.area.now l.call-index l.area (held l.shift.hand) (string_bytes l.out) l.shift.written l.invariant
     _ _ x.new.area (held x.result.hand) (string_bytes x.new.out) x.result.written c.loop-call-test.true refl x.ensures
 

@@ -21,9 +21,9 @@ returns-in-Ok g c =
     let model : g.M.Model.meaning a.street.model ≡ m = ap (λ s. g.M.Model.meaning s.model) made.street ∙ street.model in
     let area : Area = area_of (λ s. seen_of (g.M.Model.meaning s.model) s.standing) a in
     let fresh : area ≡ fresh_area m d = made.fresh ∙ (λ i. record { number = d.number; book = fresh_book (street.model i); street = street.seen i }) in
-    IfOk-weaker c.run-calls.result
-    (λ s. Lines (g.M.Model.meaning a.street.model) (limits_of a) bs c.places-places.result c.as-slice-in-Ok.result.now area None (string_bytes s))
+    IfOk-weaker c.run_calls.result
+    (λ s. Lines (g.M.Model.meaning a.street.model) (limits_of a) bs c.places-places.result c.as_slice-in-Ok.result.now area None (string_bytes s))
     (λ s. DayLines m ls bs (string_bytes s))
     (λ s x. subst (λ t. After (λ e. Lines m ls bs m.places e.calls (fresh_area m e) None) t (string_bytes s)) c.in-Ok.ensures
-    (fresh_lines m _ ls _ bs _ d _ area (string_bytes s) model made.limits c.places-places.ensures c.as-slice-in-Ok.ensures.value fresh x))
-    c.run-calls.ensures
+    (fresh_lines m _ ls _ bs _ d _ area (string_bytes s) model made.limits c.places-places.ensures c.as_slice-in-Ok.ensures.value fresh x))
+    c.run_calls.ensures

@@ -6,6 +6,6 @@ use Rattle.day.proofs.lines.write_line.Goals as goal
 pub returns : goal.returns
 returns g c =
     let b = c.args.area.now.book in
-    three_pieces c.write-end.result (string_bytes c.args.out.now) (head_text c.args.call c.args.done b.state b.row) (numbers_from b.envelope c.args.places 0) (10 ∷ [])
-    (string_bytes c.write-head.new.out) (string_bytes c.write-envelope.new.out) (string_bytes c.write-end.new.out)
-    c.in-ok-write-head.ensures c.in-ok-write-envelope.ensures c.write-end.ensures
+    three_pieces c.write_end.result (string_bytes c.args.out.now) (head_text c.args.call c.args.done b.state b.row) (numbers_from b.envelope c.args.places 0) (10 ∷ [])
+    (string_bytes c.write_head.new.out) (string_bytes c.write_envelope.new.out) (string_bytes c.write_end.new.out)
+    c.in-ok-write_head.ensures c.in-ok-write_envelope.ensures c.write_end.ensures

@@ -11,11 +11,11 @@ returns-in-Change-Some g c =
     let seen = g.S.Street.seen in
     let bs = c.args.sheet.now in
     let a = c.args.area.now in
-    let b = c.run-change.new.area in
-    let r = c.run-change.result in
+    let b = c.run_change.new.area in
+    let r = c.run_change.result in
     let n = c.in-Change-Some.number in
     let d = c.in-Change-Some.duty.area in
-    let e = c.run-change.ensures in
+    let e = c.run_change.ensures in
     record {
       does =
           subst (λ call. RanAs meaning seen (area_call bs call (held c.args.hand)) call a (held c.args.hand) r.done b (held r.hand)) (sym c.in-Change-Some.is-0)

@@ -5,7 +5,7 @@ use Rattle.day.proofs.table.read_table.Goals as goal
 
 pub returns-in-err-table : goal.returns-in-err-table
 returns-in-err-table g c =
-    let p = err_from_is_err_and c.from-residual.result c.from-residual.ensures.1 in
+    let p = err_from_is_err_and c.from_residual.result c.from_residual.ensures.1 in
     rw (p.1, p.2) (sym (turns_stop _ _ _ _ _ c.loop-k-test.true (sym c.in-err-table.ensures)) ∙ c.loop-k.invariant)
 
 pub loop-k-preserved : goal.loop-k-preserved

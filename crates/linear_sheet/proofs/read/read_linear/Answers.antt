@@ -7,5 +7,5 @@ use Rattle.linear_sheet.proofs.read.read_linear.Goals as goal
 pub returns : goal.returns
 returns c =
     let bs = c.args.bytes.now in
-    let is : ToldAs content c.read-sections.result (linear_sheet bs) = search rules in
-    record { is = is; exact = read_exactly bs c.read-sections.result is }
+    let is : ToldAs content c.read_sections.result (linear_sheet bs) = search rules in
+    record { is = is; exact = read_exactly bs c.read_sections.result is }

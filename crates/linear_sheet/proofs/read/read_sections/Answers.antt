@@ -8,8 +8,8 @@ overflow-cast-count c =
     let p = places_ok c.args.bytes.now c.in-ok-modes.modes.end c.in-ok-places.ensures in
     omega (arith, p.1)
 
-pub entries-section-requires : goal.entries-section-requires
-entries-section-requires c =
+pub entries_section-requires : goal.entries_section-requires
+entries_section-requires c =
     let p = places_ok c.args.bytes.now c.in-ok-modes.modes.end c.in-ok-places.ensures in
     (c.in-ok-modes.ensures.within.1, omega (arith, p.1))
 

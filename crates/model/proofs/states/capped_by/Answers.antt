@@ -8,8 +8,8 @@ loop-k-init c = filled_none _
 
 pub loop-k-preserved : goal.loop-k-preserved
 loop-k-preserved c =
-    filled_more (λ j. min (get_or c.args.state.now j 0) (get_or c.args.bounds.now j 0)) c.loop-k.k c.loop-k.out c.at-most.result
-    (omega arith) c.at-most.ensures c.loop-k.invariant
+    filled_more (λ j. min (get_or c.args.state.now j 0) (get_or c.args.bounds.now j 0)) c.loop-k.k c.loop-k.out c.at_most.result
+    (omega arith) c.at_most.ensures c.loop-k.invariant
 
 pub returns : goal.returns
 unfolding capped

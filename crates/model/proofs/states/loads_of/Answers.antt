@@ -6,7 +6,7 @@ pub loop-k-init : goal.loop-k-init
 loop-k-init g c = filled_none _
 
 pub loop-k-preserved : goal.loop-k-preserved
-loop-k-preserved g c = told_more (g.M.Model.meaning c.args.model.now).loads c.loop-k.k c.loop-k.loads c.load-after.result (omega arith) c.load-after.ensures c.loop-k.invariant
+loop-k-preserved g c = told_more (g.M.Model.meaning c.args.model.now).loads c.loop-k.k c.loop-k.loads c.load_after.result (omega arith) c.load_after.ensures c.loop-k.invariant
 
 pub returns : goal.returns
 returns g c =

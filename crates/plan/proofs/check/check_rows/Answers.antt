@@ -16,7 +16,7 @@ returns-in-err-state g c =
     let count = c.args.count in
     let size : count ≤ length table = omega arith in
     let long = length-take-le count table size in
-    let p = err_from_is_err_and c.from-residual.result c.from-residual.ensures.1 in
+    let p = err_from_is_err_and c.from_residual.result c.from_residual.ensures.1 in
     promised m (g.met.M.Model.lawful c.args.model.now) c.args.limits.now c.args.start.now (take count table) _ c.told-start (omega arith)
     (ap (told_by check_refusal) (p.1 ∙ ap Err p.2)
     ∙ sym (then_err _ (sym c.loop-n.invariant ∙ rows_stop m c.args.limits.now table count size c.loop-n.n c.loop-n.state c.loop-n-test.true _ c.in-err-state.ensures)))
@@ -35,5 +35,5 @@ returns g c =
     let long = length-take-le count table size in
     let done = rows_done m c.args.limits.now table count size c.loop-n.n c.loop-n.state (omega arith) in
     promised m (g.met.M.Model.lawful c.args.model.now) c.args.limits.now c.args.start.now (take count table) _ c.told-start (omega arith)
-    (c.pass-end.ensures
+    (c.pass_end.ensures
     ∙ sym (then_ok _ (sym c.loop-n.invariant ∙ done) ∙ ap (λ n. ask_end n (lowest_above c.loop-n.state c.args.start.now)) long))

@@ -5,27 +5,27 @@ use Rattle.plan_sheet.proofs.check.accepted_plan.Goals as goal
 
 pub returns-in-err-read : goal.returns-in-err-read
 returns-in-err-read g c =
-    let p = err_from_is_err_and c.from-residual.result c.from-residual.ensures.1 in
+    let p = err_from_is_err_and c.from_residual.result c.from_residual.ensures.1 in
     rw (p.1, p.2)
     (record {
       is = sym (timing_unread (g.M.Model.meaning c.args.model.now) c.args.limits.now c.args.bytes.now _ (sym c.in-err-read.ensures.is));
       accepts = says_none _ _ _ _ c.in-err-read.ensures.exact;
     })
 
-pub returns-in-err-check-plan : goal.returns-in-err-check-plan
-returns-in-err-check-plan g c =
-    let p = err_from_is_err_and c.from-residual-in-err-check-plan.result c.from-residual-in-err-check-plan.ensures.1 in
+pub returns-in-err-check_plan : goal.returns-in-err-check_plan
+returns-in-err-check_plan g c =
+    let p = err_from_is_err_and c.from_residual-in-err-check_plan.result c.from_residual-in-err-check_plan.ensures.1 in
     let h = c.in-ok-read.ensures in
     rw (p.1, p.2)
     (record {
-      is = sym (timing_refused (g.M.Model.meaning c.args.model.now) c.args.limits.now c.args.bytes.now _ _ (sym h.is) (sym c.in-err-check-plan.ensures));
-      accepts = says_one _ _ _ (g.met.M.Model.lawful c.args.model.now) _ (Err c.in-err-check-plan.field-0.0) h.exact c.in-err-check-plan.ensures;
+      is = sym (timing_refused (g.M.Model.meaning c.args.model.now) c.args.limits.now c.args.bytes.now _ _ (sym h.is) (sym c.in-err-check_plan.ensures));
+      accepts = says_one _ _ _ (g.met.M.Model.lawful c.args.model.now) _ (Err c.in-err-check_plan.field-0.0) h.exact c.in-err-check_plan.ensures;
     })
 
 pub returns : goal.returns
 returns g c =
     let h = c.in-ok-read.ensures in
     record {
-      is = sym (timing_read (g.M.Model.meaning c.args.model.now) c.args.limits.now c.args.bytes.now _ _ (sym h.is) (sym c.in-ok-check-plan.ensures));
-      accepts = says_one _ _ _ (g.met.M.Model.lawful c.args.model.now) _ (Ok c.in-ok-check-plan.field-0) h.exact c.in-ok-check-plan.ensures;
+      is = sym (timing_read (g.M.Model.meaning c.args.model.now) c.args.limits.now c.args.bytes.now _ _ (sym h.is) (sym c.in-ok-check_plan.ensures));
+      accepts = says_one _ _ _ (g.met.M.Model.lawful c.args.model.now) _ (Ok c.in-ok-check_plan.field-0) h.exact c.in-ok-check_plan.ensures;
     }

@@ -6,7 +6,7 @@ use Rattle.plan_sheet.proofs.check.check_sheet.Goals as goal
 
 pub returns-in-err-read : goal.returns-in-err-read
 returns-in-err-read g c =
-    let p = err_from_is_err_and c.from-residual.result c.from-residual.ensures.1 in
+    let p = err_from_is_err_and c.from_residual.result c.from_residual.ensures.1 in
     rw (p.1, p.2)
     (record {
       is = sym (then_err _ (sym c.in-err-read.ensures.is));
@@ -16,6 +16,6 @@ returns-in-err-read g c =
 pub returns : goal.returns
 returns g c =
     record {
-      is = c.check-plan.ensures ∙ sym (then_ok _ (sym c.in-ok-read.ensures.is));
-      accepts = says_one _ _ _ (g.met.M.Model.lawful c.args.model.now) _ _ c.in-ok-read.ensures.exact c.check-plan.ensures;
+      is = c.check_plan.ensures ∙ sym (then_ok _ (sym c.in-ok-read.ensures.is));
+      accepts = says_one _ _ _ (g.met.M.Model.lawful c.args.model.now) _ _ c.in-ok-read.ensures.exact c.check_plan.ensures;
     }

@@ -11,13 +11,13 @@ pub returns-in-err-start : goal.returns-in-err-start
 returns-in-err-start g c =
     let m = g.M.Model.meaning c.args.model.now in
     let bs = c.args.bytes.now in
-    let p = err_from_is_err_and c.from-residual-in-err-start.result c.from-residual-in-err-start.ensures.1 in
-    let is : Err (sheet_refusal c.in-err-start.field-0.0) ≡ plan_sheet m bs = sym (then_ok _ (sym c.in-ok-short-enough.ensures) ∙ then_err _ (sym c.in-err-start.ensures)) in
+    let p = err_from_is_err_and c.from_residual-in-err-start.result c.from_residual-in-err-start.ensures.1 in
+    let is : Err (sheet_refusal c.in-err-start.field-0.0) ≡ plan_sheet m bs = sym (then_ok _ (sym c.in-ok-short_enough.ensures) ∙ then_err _ (sym c.in-err-start.ensures)) in
     rw (p.1, p.2) (record { is = is; exact = exact_at m bs (g.met.M.Model.lawful c.args.model.now) _ is })
 
 pub returns : goal.returns
 returns g c =
     let m = g.M.Model.meaning c.args.model.now in
     let bs = c.args.bytes.now in
-    let is : plan_told c.rows-section.result ≡ plan_sheet m bs = c.rows-section.ensures ∙ sym (then_ok _ (sym c.in-ok-short-enough.ensures) ∙ then_ok _ (sym c.in-ok-start.ensures)) in
+    let is : plan_told c.rows_section.result ≡ plan_sheet m bs = c.rows_section.ensures ∙ sym (then_ok _ (sym c.in-ok-short_enough.ensures) ∙ then_ok _ (sym c.in-ok-start.ensures)) in
     record { is = is; exact = exact_at m bs (g.met.M.Model.lawful c.args.model.now) _ is }

@@ -5,7 +5,7 @@ use Rattle.plan_sheet.proofs.read.read_row.Goals as goal
 
 pub returns-in-err-row : goal.returns-in-err-row
 returns-in-err-row g c =
-    let p = err_from_is_err_and c.from-residual.result c.from-residual.ensures.1 in
+    let p = err_from_is_err_and c.from_residual.result c.from_residual.ensures.1 in
     rw (p.1, p.2) (sym (then_err _ (sym c.loop-k.invariant ∙ turns_stop _ _ _ _ _ c.loop-k-test.true (sym c.in-err-row.ensures))))
 
 pub loop-k-preserved : goal.loop-k-preserved

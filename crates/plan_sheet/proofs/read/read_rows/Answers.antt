@@ -5,7 +5,7 @@ use Rattle.plan_sheet.proofs.read.read_rows.Goals as goal
 
 pub returns-in-err-rows : goal.returns-in-err-rows
 returns-in-err-rows g c =
-    let p = err_from_is_err_and c.from-residual.result c.from-residual.ensures.1 in
+    let p = err_from_is_err_and c.from_residual.result c.from_residual.ensures.1 in
     rw (p.1, p.2) (sym (turns_stop _ _ _ _ _ c.loop-k-test.true (sym c.in-err-rows.ensures)) ∙ c.loop-k.invariant)
 
 pub loop-k-preserved : goal.loop-k-preserved

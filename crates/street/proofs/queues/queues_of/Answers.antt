@@ -7,8 +7,8 @@ loop-k-init g c = (filled_none _, λ h. absurd (omega arith))
 
 pub loop-k-preserved : goal.loop-k-preserved
 loop-k-preserved g c = (
-  told_more (g.S.Street.seen c.args.street.now).queues c.loop-k.k c.loop-k.queues c.queue-after.result (omega arith) c.queue-after.ensures.is c.loop-k.invariant.0,
-  λ h. c.queue-after.ensures.within.queues.size,
+  told_more (g.S.Street.seen c.args.street.now).queues c.loop-k.k c.loop-k.queues c.queue_after.result (omega arith) c.queue_after.ensures.is c.loop-k.invariant.0,
+  λ h. c.queue_after.ensures.within.queues.size,
 )
 
 pub returns : goal.returns

@@ -6,26 +6,26 @@ use Rattle.verdict.proofs.Rightly.{right_alike}
 use Rattle.verdict.proofs.Models.{network_begins, linear_begins}
 use Rattle.verdict.proofs.judge.judge.Goals as goal
 
-pub returns-then-is-linear : goal.returns-then-is-linear
-returns-then-is-linear c =
+pub returns-then-is_linear : goal.returns-then-is_linear
+returns-then-is_linear c =
     let bs = c.args.input.now in
-    let first : begins_linear bs ≡ true = sym c.if-is-linear.ensures in
+    let first : begins_linear bs ≡ true = sym c.if-is_linear.ensures in
     record {
-      is = IfOk-weaker c.judge-linear.result (λ v. v ≡ linear_verdict bs) (λ v. v ≡ verdict_on bs) (λ v e. e ∙ sym (cond-true (begins_linear bs) (linear_verdict bs) (network_verdict bs) first)) c.judge-linear.ensures.is;
+      is = IfOk-weaker c.judge_linear.result (λ v. v ≡ linear_verdict bs) (λ v. v ≡ verdict_on bs) (λ v e. e ∙ sym (cond-true (begins_linear bs) (linear_verdict bs) (network_verdict bs) first)) c.judge_linear.ensures.is;
       right =
-          IfOk-weaker c.judge-linear.result (Right (LinearSaid bs) bs) (Right (ModelSaid bs) bs)
+          IfOk-weaker c.judge_linear.result (Right (LinearSaid bs) bs) (Right (ModelSaid bs) bs)
           (right_alike (LinearSaid bs) (ModelSaid bs) (λ m ls to s. inl s) (λ m ls to s. ⊎_elim (λ l. l) (λ n. absurd (both_ways (begins_linear bs) (network_begins bs m ls to n) first)) s) bs)
-          c.judge-linear.ensures.right;
+          c.judge_linear.ensures.right;
     }
 
-pub returns-else-is-linear : goal.returns-else-is-linear
-returns-else-is-linear c =
+pub returns-else-is_linear : goal.returns-else-is_linear
+returns-else-is_linear c =
     let bs = c.args.input.now in
-    let first : begins_linear bs ≡ false = sym c.if-is-linear.ensures in
+    let first : begins_linear bs ≡ false = sym c.if-is_linear.ensures in
     record {
-      is = IfOk-weaker c.judge-network.result (λ v. v ≡ network_verdict bs) (λ v. v ≡ verdict_on bs) (λ v e. e ∙ sym (cond-false (begins_linear bs) (linear_verdict bs) (network_verdict bs) first)) c.judge-network.ensures.is;
+      is = IfOk-weaker c.judge_network.result (λ v. v ≡ network_verdict bs) (λ v. v ≡ verdict_on bs) (λ v e. e ∙ sym (cond-false (begins_linear bs) (linear_verdict bs) (network_verdict bs) first)) c.judge_network.ensures.is;
       right =
-          IfOk-weaker c.judge-network.result (Right (NetworkSaid bs) bs) (Right (ModelSaid bs) bs)
+          IfOk-weaker c.judge_network.result (Right (NetworkSaid bs) bs) (Right (ModelSaid bs) bs)
           (right_alike (NetworkSaid bs) (ModelSaid bs) (λ m ls to s. inr s) (λ m ls to s. ⊎_elim (λ l. absurd (both_ways (begins_linear bs) first (linear_begins bs m ls to l))) (λ n. n) s) bs)
-          c.judge-network.ensures.right;
+          c.judge_network.ensures.right;
     }

@@ -29,14 +29,14 @@ returns-in-Ok c =
     let bs = c.args.input.now in
     let v = c.in-Ok.read in
     let h = c.in-Ok.ensures in
-    let plan : c.judge-plan.result ≡ verdict_of (checked_sheet (linear (lines v.model)) (vec_items v.limits) (drop v.end bs)) =
-    c.judge-plan.ensures ∙ (λ i. verdict_of (checked_sheet (linear (lines v.model)) (c.as-slice.ensures.value i) (c.after.ensures i))) in
-    let e = judged_read (kind bs) bs content (linear_sheet bs) v (lawful (lines v.model) (sound v.model)) h.is h.exact c.judge-plan.result plan in
+    let plan : c.judge_plan.result ≡ verdict_of (checked_sheet (linear (lines v.model)) (vec_items v.limits) (drop v.end bs)) =
+    c.judge_plan.ensures ∙ (λ i. verdict_of (checked_sheet (linear (lines v.model)) (c.as_slice.ensures.value i) (c.after.ensures i))) in
+    let e = judged_read (kind bs) bs content (linear_sheet bs) v (lawful (lines v.model) (sound v.model)) h.is h.exact c.judge_plan.result plan in
     record { is = e.0; right = e.1 }
 
 pub returns-in-Err : goal.returns-in-Err
 returns-in-Err c =
     let bs = c.args.input.now in
     let h = c.in-Err.ensures in
-    let e = judged_fault (kind bs) bs content (linear_sheet bs) c.in-Err.why c.judge-fault.result c.judge-fault.ensures h.is h.exact in
+    let e = judged_fault (kind bs) bs content (linear_sheet bs) c.in-Err.why c.judge_fault.result c.judge_fault.ensures h.is h.exact in
     record { is = e.0; right = e.1 }

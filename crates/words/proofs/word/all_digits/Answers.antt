@@ -5,8 +5,8 @@ use Rattle.words.proofs.word.all_digits.Goals as goal
 pub loop-b-preserved : goal.loop-b-preserved
 loop-b-preserved c = search (rules, digits_more)
 
-pub returns-then-not-is-digit : goal.returns-then-not-is-digit
-returns-then-not-is-digit c = search (rules, digits_stop)
+pub returns-then-not-is_digit : goal.returns-then-not-is_digit
+returns-then-not-is_digit c = search (rules, digits_stop)
 
 pub returns : goal.returns
 returns c = search (rules, digits_done)

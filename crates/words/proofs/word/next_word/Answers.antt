@@ -3,22 +3,22 @@ use Rattle.words.proofs.Steps.{ended_within, cut_within, cut_number, cut_name}
 use Rattle.words.proofs.word.next_word.Goals as goal
 
 pub slice-bounds-text-count : goal.slice-bounds-text-count
-slice-bounds-text-count c = omega (arith, ended_within _ _ _ _ c.first-byte-place.ensures c.in-ok-end.ensures c.if-end-place.false)
+slice-bounds-text-count c = omega (arith, ended_within _ _ _ _ c.first_byte-place.ensures c.in-ok-end.ensures c.if-end-place.false)
 
 pub slice-bounds-text-start : goal.slice-bounds-text-start
-slice-bounds-text-start c = omega (arith, ended_within _ _ _ _ c.first-byte-place.ensures c.in-ok-end.ensures c.if-end-place.false)
+slice-bounds-text-start c = omega (arith, ended_within _ _ _ _ c.first_byte-place.ensures c.in-ok-end.ensures c.if-end-place.false)
 
 pub slice-bounds-text-end : goal.slice-bounds-text-end
-slice-bounds-text-end c = omega (arith, ended_within _ _ _ _ c.first-byte-place.ensures c.in-ok-end.ensures c.if-end-place.false)
+slice-bounds-text-end c = omega (arith, ended_within _ _ _ _ c.first_byte-place.ensures c.in-ok-end.ensures c.if-end-place.false)
 
-pub returns-then-is-numeral : goal.returns-then-is-numeral
-returns-then-is-numeral c = record {
-  is = cut_number _ _ _ _ c.first-byte-place.ensures c.in-ok-end.ensures c.if-end-place.false (sym c.if-is-numeral.ensures);
-  within = (cut_within _ _ _ _ c.first-byte-place.ensures c.in-ok-end.ensures c.if-end-place.false, sym c.if-is-numeral.ensures);
+pub returns-then-is_numeral : goal.returns-then-is_numeral
+returns-then-is_numeral c = record {
+  is = cut_number _ _ _ _ c.first_byte-place.ensures c.in-ok-end.ensures c.if-end-place.false (sym c.if-is_numeral.ensures);
+  within = (cut_within _ _ _ _ c.first_byte-place.ensures c.in-ok-end.ensures c.if-end-place.false, sym c.if-is_numeral.ensures);
 }
 
-pub returns-else-is-numeral : goal.returns-else-is-numeral
-returns-else-is-numeral c = record {
-  is = cut_name _ _ _ _ c.first-byte-place.ensures c.in-ok-end.ensures c.if-end-place.false (sym c.if-is-numeral.ensures);
-  within = cut_within _ _ _ _ c.first-byte-place.ensures c.in-ok-end.ensures c.if-end-place.false;
+pub returns-else-is_numeral : goal.returns-else-is_numeral
+returns-else-is_numeral c = record {
+  is = cut_name _ _ _ _ c.first_byte-place.ensures c.in-ok-end.ensures c.if-end-place.false (sym c.if-is_numeral.ensures);
+  within = cut_within _ _ _ _ c.first_byte-place.ensures c.in-ok-end.ensures c.if-end-place.false;
 }

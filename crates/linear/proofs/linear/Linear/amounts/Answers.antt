@@ -12,8 +12,8 @@ pub loop-k-preserved : goal.loop-k-preserved
 loop-k-preserved c =
     let n = lines c.args.self.now in
     let f = amount n c.args.mode c.args.values.now c.args.arrivals.now in
-    filled_more (inside n f) c.loop-k.k c.loop-k.amounts c.amount-of.result (omega (arith, c.args.self.now.few))
-    (rw (inside_at n c.loop-k.k (omega arith) f) c.amount-of.ensures) c.loop-k.invariant
+    filled_more (inside n f) c.loop-k.k c.loop-k.amounts c.amount_of.result (omega (arith, c.args.self.now.few))
+    (rw (inside_at n c.loop-k.k (omega arith) f) c.amount_of.ensures) c.loop-k.invariant
 
 pub returns : goal.returns
 unfolding amounts

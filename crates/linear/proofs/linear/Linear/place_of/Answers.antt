@@ -7,4 +7,4 @@ pub returns-then-number-lt1 : goal.returns-then-number-lt1
 returns-then-number-lt1 c = none_of (lines c.args.self.now) (sound c.args.self.now) c.args.number (λ h. omega arith)
 
 pub returns : goal.returns
-returns c = numbers_of (lines c.args.self.now) (sound c.args.self.now) c.args.number c.place-at.result (omega arith) c.place-at.ensures.value
+returns c = numbers_of (lines c.args.self.now) (sound c.args.self.now) c.args.number c.place_at.result (omega arith) c.place_at.ensures.value

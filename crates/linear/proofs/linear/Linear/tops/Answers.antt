@@ -10,8 +10,8 @@ loop-k-init c = filled_none _
 
 pub loop-k-preserved : goal.loop-k-preserved
 loop-k-preserved c =
-    filled_more (λ j. (place (lines c.args.self.now) j).top) c.loop-k.k c.loop-k.tops c.place-at.result.top
-    (omega (arith, c.args.self.now.few)) (ap (λ p. p.top) c.place-at.ensures.value) c.loop-k.invariant
+    filled_more (λ j. (place (lines c.args.self.now) j).top) c.loop-k.k c.loop-k.tops c.place_at.result.top
+    (omega (arith, c.args.self.now.few)) (ap (λ p. p.top) c.place_at.ensures.value) c.loop-k.invariant
 
 pub returns : goal.returns
 unfolding tops

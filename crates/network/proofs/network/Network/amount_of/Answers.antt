@@ -7,15 +7,15 @@ use Rattle.network.proofs.network.Network.amount_of.Goals as goal
 pub overflow-sub-result : goal.overflow-sub-result
 overflow-sub-result c = c.requires.ready.leaving c.args.k
 
-pub inflow-of-requires : goal.inflow-of-requires
-inflow-of-requires c =
+pub inflow_of-requires : goal.inflow_of-requires
+inflow_of-requires c =
     record { inside = c.requires.inside; small = out_small (roads c.args.self.now) (sound c.args.self.now) _ _ _ c.requires.ready }
 
 pub overflow-add-result : goal.overflow-add-result
 overflow-add-result c =
     let n = roads c.args.self.now in
     let ok = sound c.args.self.now in
-    omega (arith, c.inflow-of.ensures, inflow_few n ok _ _ _ c.requires.ready c.args.k, queue_small n ok _ _ _ c.requires.ready c.args.k)
+    omega (arith, c.inflow_of.ensures, inflow_few n ok _ _ _ c.requires.ready c.args.k, queue_small n ok _ _ _ c.requires.ready c.args.k)
 
 pub overflow-add-result-2 : goal.overflow-add-result-2
 overflow-add-result-2 c =
@@ -23,7 +23,7 @@ overflow-add-result-2 c =
     let ok = sound c.args.self.now in
     omega (
       arith,
-      c.inflow-of.ensures,
+      c.inflow_of.ensures,
       inflow_few n ok _ _ _ c.requires.ready c.args.k,
       queue_small n ok _ _ _ c.requires.ready c.args.k,
       arrival_small n ok _ _ _ c.requires.ready c.args.k,

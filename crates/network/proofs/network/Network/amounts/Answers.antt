@@ -10,8 +10,8 @@ loop-k-init c = filled_none _
 
 pub loop-k-preserved : goal.loop-k-preserved
 loop-k-preserved c =
-    filled_more (amount (roads c.args.self.now) c.args.out.now c.args.queues.now c.args.arrivals.now) c.loop-k.k c.loop-k.amounts c.amount-of.result
-    (omega (arith, c.args.self.now.few)) c.amount-of.ensures c.loop-k.invariant
+    filled_more (amount (roads c.args.self.now) c.args.out.now c.args.queues.now c.args.arrivals.now) c.loop-k.k c.loop-k.amounts c.amount_of.result
+    (omega (arith, c.args.self.now.few)) c.amount_of.ensures c.loop-k.invariant
 
 pub returns : goal.returns
 unfolding amounts

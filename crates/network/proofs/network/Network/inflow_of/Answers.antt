@@ -12,7 +12,7 @@ use Rattle.network.proofs.network.Network.inflow_of.Goals as goal
 more : (c : goal.After-brought-sum) → c.loop-t.sum + c.brought-sum.result ≡ sum_by (turned_into c.args.out.now c.args.k) (take (c.loop-t.t-index + 1) (roads c.args.self.now).turns)
 more c =
     let n = roads c.args.self.now in
-    let s = c.as-slice-t-items.ensures.value in
+    let s = c.as_slice-t-items.ensures.value in
     let h : c.loop-t.t-index < length n.turns = rw (← s) c.loop-t-test.true in
     let e = sum_by_more (turned_into c.args.out.now c.args.k) n.turns c.loop-t.t-index no_turn h in
     cc

@@ -7,4 +7,4 @@ pub returns-then-place-lt1 : goal.returns-then-place-lt1
 returns-then-place-lt1 c = none_of (roads c.args.self.now) (sound c.args.self.now) c.args.place (λ h. omega arith)
 
 pub returns : goal.returns
-returns c = numbers_of (roads c.args.self.now) (sound c.args.self.now) c.args.place c.link-at.result (omega arith) c.link-at.ensures.value
+returns c = numbers_of (roads c.args.self.now) (sound c.args.self.now) c.args.place c.link_at.result (omega arith) c.link_at.ensures.value

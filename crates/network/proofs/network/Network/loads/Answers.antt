@@ -10,8 +10,8 @@ loop-k-init c = filled_none _
 
 pub loop-k-preserved : goal.loop-k-preserved
 loop-k-preserved c =
-    filled_more (λ j. (link (roads c.args.self.now) j).load) c.loop-k.k c.loop-k.loads c.link-at.result.load
-    (omega (arith, c.args.self.now.few)) (ap (λ l. l.load) c.link-at.ensures.value) c.loop-k.invariant
+    filled_more (λ j. (link (roads c.args.self.now) j).load) c.loop-k.k c.loop-k.loads c.link_at.result.load
+    (omega (arith, c.args.self.now.few)) (ap (λ l. l.load) c.link_at.ensures.value) c.loop-k.invariant
 
 pub returns : goal.returns
 unfolding loads

@@ -3,4 +3,4 @@ use Rattle.network.specs.Bounds.{product_small}
 use Rattle.network.proofs.network.Network.passage.Goals as goal
 
 pub overflow-mul-result : goal.overflow-mul-result
-overflow-mul-result c = omega (arith, product_small c.args.t.now.supply c.room-for.result c.requires.2.2 c.room-for.ensures.small)
+overflow-mul-result c = omega (arith, product_small c.args.t.now.supply c.room_for.result c.requires.2.2 c.room_for.ensures.small)

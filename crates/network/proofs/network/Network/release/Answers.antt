@@ -12,6 +12,6 @@ wishes-wishes-requires c = simp c.lit.ensures (lit_fits (roads c.args.self.now).
 pub returns : goal.returns
 returns c =
     let n = roads c.args.self.now in
-    let o = let_out_is n c.args.row c.args.state _ _ _ _ _ c.tops.ensures c.lit.ensures c.capped-by-queues.ensures c.wishes-wishes.ensures c.releases.ensures in
-    let e = c.number-at.ensures ∙ ap (λ xs. told xs c.args.link) o in
+    let o = let_out_is n c.args.row c.args.state _ _ _ _ _ c.tops.ensures c.lit.ensures c.capped_by-queues.ensures c.wishes-wishes.ensures c.releases.ensures in
+    let e = c.number_at.ensures ∙ ap (λ xs. told xs c.args.link) o in
     record { value = e; greatest = lets_out n (sound c.args.self.now) c.args.row c.args.state c.args.link _ e }

@@ -13,7 +13,7 @@ loop-t-init c = whole_is _ c.args.asked.now (omega arith) (λ k h. refl)
 pub loop-t-preserved : goal.loop-t-preserved
 loop-t-preserved c =
     let n = roads c.args.self.now in
-    let s = c.as-slice-t-items.ensures.value in
+    let s = c.as_slice-t-items.ensures.value in
     let h : c.loop-t.t-index < length n.turns = rw (← s) c.loop-t-test.true in
     let e = eased_more n (sound c.args.self.now) c.args.queues.now c.args.asked.now c.loop-t.t-index h in
     let t = c.tighten.ensures in

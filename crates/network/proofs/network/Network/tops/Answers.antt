@@ -10,8 +10,8 @@ loop-k-init c = filled_none _
 
 pub loop-k-preserved : goal.loop-k-preserved
 loop-k-preserved c =
-    filled_more (λ j. (link (roads c.args.self.now) j).top) c.loop-k.k c.loop-k.tops c.link-at.result.top
-    (omega (arith, c.args.self.now.few)) (ap (λ l. l.top) c.link-at.ensures.value) c.loop-k.invariant
+    filled_more (λ j. (link (roads c.args.self.now) j).top) c.loop-k.k c.loop-k.tops c.link_at.result.top
+    (omega (arith, c.args.self.now.few)) (ap (λ l. l.top) c.link_at.ensures.value) c.loop-k.invariant
 
 pub returns : goal.returns
 unfolding tops

@@ -10,8 +10,8 @@ loop-k-init c = filled_none _
 
 pub loop-k-preserved : goal.loop-k-preserved
 loop-k-preserved c =
-    filled_more (wish (roads c.args.self.now) c.args.row.now c.args.queues.now) c.loop-k.k c.loop-k.wishes c.wish-of.result
-    (omega (arith, c.args.self.now.few)) c.wish-of.ensures c.loop-k.invariant
+    filled_more (wish (roads c.args.self.now) c.args.row.now c.args.queues.now) c.loop-k.k c.loop-k.wishes c.wish_of.result
+    (omega (arith, c.args.self.now.few)) c.wish_of.ensures c.loop-k.invariant
 
 pub returns : goal.returns
 unfolding wishes

@@ -15,7 +15,7 @@ loop-k-init c = sym (lowest_none _)
 pub loop-k-preserved : goal.loop-k-preserved
 loop-k-preserved c =
     first_more c.loop-k.k (verdict_at c.args.wishes.now c.args.out.now c.args.amounts.now c.args.tops.now) _ _ _
-    c.loop-k.invariant c.verdict-at.ensures c.first-answer.ensures
+    c.loop-k.invariant c.verdict_at.ensures c.first-answer.ensures
 
 pub returns : goal.returns
 returns c =

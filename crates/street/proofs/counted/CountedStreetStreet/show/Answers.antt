@@ -19,6 +19,6 @@ returns g c =
       step = record {
         answers = counted_answers m law c.args.row gs group.result group.ensures c.show.result e.answer;
         moves = counted_moves m law c.args.row gs group.result group.ensures (seen_of m street.standing) (seen_of m c.show.new.self) e.exact;
-        uses = ap (map (capped_group m)) c.use-up.ensures ∙ sym (rest_map m gs);
+        uses = ap (map (capped_group m)) c.use_up.ensures ∙ sym (rest_map m gs);
       };
     }

@@ -3,4 +3,4 @@ use Rattle.street.proofs.Using.{left_count}
 use Rattle.street.proofs.groups.Groups.left.Goals as goal
 
 pub returns : goal.returns
-returns c = c.count-left.ensures ∙ left_count c.args.self.now
+returns c = c.count_left.ensures ∙ left_count c.args.self.now

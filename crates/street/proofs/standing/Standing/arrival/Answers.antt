@@ -8,6 +8,6 @@ returns g c =
     let law = g.met.M.Model.lawful model in
     let s = c.args.self.now in
     record {
-      is = tells m.loads s.arrivals law.whole_loads c.args.place _ _ _ c.lesser.ensures c.number-at.ensures c.load.ensures;
+      is = tells m.loads s.arrivals law.whole_loads c.args.place _ _ _ c.lesser.ensures c.number_at.ensures c.load.ensures;
       within = bounded m law s;
     }

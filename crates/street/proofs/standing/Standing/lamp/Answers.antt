@@ -7,6 +7,6 @@ pub returns : goal.returns
 returns g c =
     let m = c.args.model.now in
     record {
-      is = c.mode-at.ensures ∙ ap (λ r. told r c.args.signal) c.lit.ensures;
+      is = c.mode_at.ensures ∙ ap (λ r. told r c.args.signal) c.lit.ensures;
       within = bounded (g.M.Model.meaning m) (g.met.M.Model.lawful m) c.args.self.now;
     }

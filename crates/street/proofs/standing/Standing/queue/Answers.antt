@@ -8,6 +8,6 @@ returns g c =
     let law = g.met.M.Model.lawful model in
     let s = c.args.self.now in
     record {
-      is = tells m.tops s.queues law.whole_tops c.args.place _ _ _ c.lesser.ensures c.number-at.ensures c.top.ensures;
+      is = tells m.tops s.queues law.whole_tops c.args.place _ _ _ c.lesser.ensures c.number_at.ensures c.top.ensures;
       within = bounded m law s;
     }

@@ -9,9 +9,9 @@ returns g c =
     let law = g.met.M.Model.lawful model in
     let s = c.args.self.now in
     let t = c.stand.result in
-    let a = c.answer-for-answer in
+    let a = c.answer_for-answer in
     let e = c.stand.ensures in
-    let is = after_is m law s t a.result c.args.marked c.args.row _ _ c.args.arrivals a.ensures c.lamps-after-lamps.ensures c.next-queues-queues.ensures e.queues e.lamps e.arrivals in
+    let is = after_is m law s t a.result c.args.marked c.args.row _ _ c.args.arrivals a.ensures c.lamps_after-lamps.ensures c.next_queues-queues.ensures e.queues e.lamps e.arrivals in
     record {
       answer = a.ensures;
       exact = is;

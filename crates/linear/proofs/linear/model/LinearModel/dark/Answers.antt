@@ -5,4 +5,4 @@ use Rattle.linear.specs.Lines.{linear}
 use Rattle.linear.proofs.linear.model.LinearModel.dark.Goals as goal
 
 pub returns : goal.returns
-returns c = c.all-dark.ensures ∙ sym (dark_is (linear (lines c.args.self.now)))
+returns c = c.all_dark.ensures ∙ sym (dark_is (linear (lines c.args.self.now)))

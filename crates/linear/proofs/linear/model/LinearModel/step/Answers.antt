@@ -10,14 +10,14 @@ pub amounts-amounts-requires : goal.amounts-amounts-requires
 amounts-amounts-requires c =
     ready (lines c.args.self.now) (sound c.args.self.now) c.args.row c.args.state c.args.arrivals _ _ _
     c.lit-lamps.ensures
-    (c.capped-by-values.ensures ∙ ap (λ t. capped t c.args.state) c.tops-tops.ensures)
-    (c.capped-by-coming.ensures ∙ ap (λ t. capped t c.args.arrivals) c.loads.ensures)
+    (c.capped_by-values.ensures ∙ ap (λ t. capped t c.args.state) c.tops-tops.ensures)
+    (c.capped_by-coming.ensures ∙ ap (λ t. capped t c.args.arrivals) c.loads.ensures)
 
 pub returns : goal.returns
 returns c =
     let n = lines c.args.self.now in
     let e = step_is n c.args.row c.args.state c.args.arrivals _ _ _ _ _ _ _ _
-    c.tops-tops.ensures c.lit-lamps.ensures c.capped-by-values.ensures
-    (c.capped-by-coming.ensures ∙ ap (λ t. capped t c.args.arrivals) c.loads.ensures)
-    c.amounts-amounts.ensures c.capped-by-next.ensures c.lowest-place-above.ensures c.verdict-answer.ensures in
+    c.tops-tops.ensures c.lit-lamps.ensures c.capped_by-values.ensures
+    (c.capped_by-coming.ensures ∙ ap (λ t. capped t c.args.arrivals) c.loads.ensures)
+    c.amounts-amounts.ensures c.capped_by-next.ensures c.lowest_place_above.ensures c.verdict-answer.ensures in
     (e, fits_exactly n (sound c.args.self.now) c.args.row c.args.state c.args.arrivals _ (ap (λ s. s.answer) e))

@@ -5,4 +5,4 @@ use Rattle.network.specs.Network.{network}
 use Rattle.network.proofs.network.model.NetworkModel.dark.Goals as goal
 
 pub returns : goal.returns
-returns c = c.all-red.ensures ∙ sym (dark_is (network (roads c.args.self.now)))
+returns c = c.all_red.ensures ∙ sym (dark_is (network (roads c.args.self.now)))

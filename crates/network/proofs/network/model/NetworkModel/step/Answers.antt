@@ -15,17 +15,17 @@ wishes-wishes-requires c = simp c.lit.ensures (lit_fits (roads c.args.self.now).
 pub amounts-amounts-requires : goal.amounts-amounts-requires
 amounts-amounts-requires c =
     let n = roads c.args.self.now in
-    let o = out_is n c.args.row c.args.state _ _ _ _ _ c.tops-tops.ensures c.lit.ensures c.capped-by-queues.ensures c.wishes-wishes.ensures c.releases-out.ensures in
+    let o = out_is n c.args.row c.args.state _ _ _ _ _ c.tops-tops.ensures c.lit.ensures c.capped_by-queues.ensures c.wishes-wishes.ensures c.releases-out.ensures in
     ready n (sound c.args.self.now) c.lit.result c.args.state c.args.arrivals _ _ _ o
-    (c.capped-by-queues.ensures ∙ ap (λ t. capped t c.args.state) c.tops-tops.ensures)
-    (c.capped-by-coming.ensures ∙ ap (λ t. capped t c.args.arrivals) c.loads.ensures)
+    (c.capped_by-queues.ensures ∙ ap (λ t. capped t c.args.state) c.tops-tops.ensures)
+    (c.capped_by-coming.ensures ∙ ap (λ t. capped t c.args.arrivals) c.loads.ensures)
 
 pub returns : goal.returns
 returns c =
     let n = roads c.args.self.now in
-    let e = step_is n c.args.row c.args.state _ _ _ _ _ c.tops-tops.ensures c.lit.ensures c.capped-by-queues.ensures c.wishes-wishes.ensures c.releases-out.ensures
+    let e = step_is n c.args.row c.args.state _ _ _ _ _ c.tops-tops.ensures c.lit.ensures c.capped_by-queues.ensures c.wishes-wishes.ensures c.releases-out.ensures
     c.args.arrivals _ _ _ _
-    (c.capped-by-coming.ensures ∙ ap (λ t. capped t c.args.arrivals) c.loads.ensures)
-    c.amounts-amounts.ensures c.capped-by-next.ensures
-    (c.lowest-held-answer.ensures ∙ ap (λ j. lowest j (verdict_at c.wishes-wishes.result c.releases-out.result c.amounts-amounts.result c.tops-tops.result)) c.places.ensures) in
+    (c.capped_by-coming.ensures ∙ ap (λ t. capped t c.args.arrivals) c.loads.ensures)
+    c.amounts-amounts.ensures c.capped_by-next.ensures
+    (c.lowest_held-answer.ensures ∙ ap (λ j. lowest j (verdict_at c.wishes-wishes.result c.releases-out.result c.amounts-amounts.result c.tops-tops.result)) c.places.ensures) in
     (e, flows_exactly n (sound c.args.self.now) c.args.row c.args.state c.args.arrivals _ (ap (λ s. s.answer) e))
