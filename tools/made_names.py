@@ -28,6 +28,11 @@ for path in sorted(glob.glob("crates/*/proofs/**/*.antt", recursive=True)):
         return ONE.sub(lambda w: w.group(0).replace("-", "_"), m.group(0))
 
     new = TOKEN.sub(turn, text)
+    # what a `?` leads to, sums and ranges, and what is told of a parameter
+    new = re.sub(r"(?<![\w'])((?:[\w']+-)*)in-(ok|err)-", r"\1in_\2-", new)
+    new = re.sub(r"(?<![\w'-])overflow-(add|mul|sub|cast|shr|shl|neg)-", r"overflow_\1-", new)
+    new = re.sub(r"(?<![\w'-])slice-bounds-", "slice_bounds-", new)
+    new = re.sub(r"\bc\.told_rows\b", "c.told-rows", new)
     if new != text:
         Path(path).write_text(new)
         print(path)

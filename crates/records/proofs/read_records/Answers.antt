@@ -6,18 +6,18 @@ use Rattle.refusal.proofs.Turning.{turns_more, turns_stop, then_ok, then_err}
 use Rattle.records.specs.Sections.{next_record}
 use Rattle.records.proofs.read_records.Goals as goal
 
-pub returns-in-err-read : goal.returns-in-err-read
-returns-in-err-read g c =
+pub returns-in_err-read : goal.returns-in_err-read
+returns-in_err-read g c =
     let read = g.R.Record.reads c.args.kind.now c.args.bytes.now in
     let p = err_from_is_err_and c.from_residual.result c.from_residual.ensures.1 in
     let before = ap (read c.loop-k.end) c.as_slice.ensures.value in
-    rw (p.1, p.2) (sym (turns_stop (next_record read) _ _ _ _ c.loop-k-test.true (then_err _ (sym (c.in-err-read.ensures ∙ before)))) ∙ c.loop-k.invariant)
+    rw (p.1, p.2) (sym (turns_stop (next_record read) _ _ _ _ c.loop-k-test.true (then_err _ (sym (c.in_err-read.ensures ∙ before)))) ∙ c.loop-k.invariant)
 
 pub loop-k-preserved : goal.loop-k-preserved
 loop-k-preserved g c =
     let read = g.R.Record.reads c.args.kind.now c.args.bytes.now in
-    let pushed = chosen _ _ _ _ c.push.ensures.items (ap is_ok c.in-ok-push.was) in
+    let pushed = chosen _ _ _ _ c.push.ensures.items (ap is_ok c.in_ok-push.was) in
     let before = ap (read c.loop-k.end) c.as_slice.ensures.value in
-    ap (λ v. turns (next_record read) (c.args.count - (c.loop-k.k + 1)) (c.loop-k.k + 1) (record { items = v; end = c.in-ok-read.read.end })) pushed
-    ∙ sym (turns_more (next_record read) _ _ _ _ c.loop-k-test.true (then_ok _ (sym (c.in-ok-read.ensures ∙ before))))
+    ap (λ v. turns (next_record read) (c.args.count - (c.loop-k.k + 1)) (c.loop-k.k + 1) (record { items = v; end = c.in_ok-read.read.end })) pushed
+    ∙ sym (turns_more (next_record read) _ _ _ _ c.loop-k-test.true (then_ok _ (sym (c.in_ok-read.ensures ∙ before))))
     ∙ c.loop-k.invariant

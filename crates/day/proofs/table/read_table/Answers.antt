@@ -3,10 +3,10 @@ use Rattle.std.proofs.lemmas.Result.{err_from_is_err_and}
 use Rattle.refusal.proofs.Turning.{turns_more, turns_stop}
 use Rattle.day.proofs.table.read_table.Goals as goal
 
-pub returns-in-err-table : goal.returns-in-err-table
-returns-in-err-table g c =
+pub returns-in_err-table : goal.returns-in_err-table
+returns-in_err-table g c =
     let p = err_from_is_err_and c.from_residual.result c.from_residual.ensures.1 in
-    rw (p.1, p.2) (sym (turns_stop _ _ _ _ _ c.loop-k-test.true (sym c.in-err-table.ensures)) ∙ c.loop-k.invariant)
+    rw (p.1, p.2) (sym (turns_stop _ _ _ _ _ c.loop-k-test.true (sym c.in_err-table.ensures)) ∙ c.loop-k.invariant)
 
 pub loop-k-preserved : goal.loop-k-preserved
-loop-k-preserved g c = sym (turns_more _ _ _ _ _ c.loop-k-test.true (sym c.in-ok-table.ensures)) ∙ c.loop-k.invariant
+loop-k-preserved g c = sym (turns_more _ _ _ _ _ c.loop-k-test.true (sym c.in_ok-table.ensures)) ∙ c.loop-k.invariant

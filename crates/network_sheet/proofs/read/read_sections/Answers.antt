@@ -4,22 +4,22 @@ use Rattle.network_sheet.proofs.read.read_sections.Goals as goal
 
 pub links_section-requires : goal.links_section-requires
 links_section-requires c =
-    let p = phases_ok c.args.bytes.now c.in-ok-signals.ensures in
+    let p = phases_ok c.args.bytes.now c.in_ok-signals.ensures in
     omega (arith, p.1, ap length c.as_slice.ensures.value)
 
 pub turns_section-requires : goal.turns_section-requires
 turns_section-requires c =
-    let l = links_ok c.args.bytes.now c.in-ok-signals.ensures c.as_slice.ensures.value c.in-ok-links.ensures in
+    let l = links_ok c.args.bytes.now c.in_ok-signals.ensures c.as_slice.ensures.value c.in_ok-links.ensures in
     omega (arith, l.1, ap length c.as_slice-2.ensures.value)
 
 pub limits_section-requires : goal.limits_section-requires
 limits_section-requires c =
-    let l = links_ok c.args.bytes.now c.in-ok-signals.ensures c.as_slice.ensures.value c.in-ok-links.ensures in
+    let l = links_ok c.args.bytes.now c.in_ok-signals.ensures c.as_slice.ensures.value c.in_ok-links.ensures in
     omega (arith, l.1, ap length c.as_slice-3.ensures.value)
 
 pub invariant-of-network : goal.invariant-of-network
 invariant-of-network c =
-    let p = phases_ok c.args.bytes.now c.in-ok-signals.ensures in
-    let l = links_ok c.args.bytes.now c.in-ok-signals.ensures c.as_slice.ensures.value c.in-ok-links.ensures in
-    let t = turns_ok c.args.bytes.now c.in-ok-links.links.end c.as_slice-2.ensures.value l.1 c.in-ok-turns.ensures in
+    let p = phases_ok c.args.bytes.now c.in_ok-signals.ensures in
+    let l = links_ok c.args.bytes.now c.in_ok-signals.ensures c.as_slice.ensures.value c.in_ok-links.ensures in
+    let t = turns_ok c.args.bytes.now c.in_ok-links.links.end c.as_slice-2.ensures.value l.1 c.in_ok-turns.ensures in
     (p, (l.0, (l.1, (l.2, (t.0, (t.1, tt))))))

@@ -9,8 +9,8 @@ use Rattle.plan.proofs.Accepts.{rows_more, rows_stop, rows_done}
 use Rattle.plan.proofs.Runs.{promised}
 use Rattle.plan.proofs.check.check_rows.Goals as goal
 
-pub returns-in-err-state : goal.returns-in-err-state
-returns-in-err-state g c =
+pub returns-in_err-state : goal.returns-in_err-state
+returns-in_err-state g c =
     let m = g.M.Model.meaning c.args.model.now in
     let table = c.args.rows.now in
     let count = c.args.count in
@@ -19,11 +19,11 @@ returns-in-err-state g c =
     let p = err_from_is_err_and c.from_residual.result c.from_residual.ensures.1 in
     promised m (g.met.M.Model.lawful c.args.model.now) c.args.limits.now c.args.start.now (take count table) _ c.told-start (omega arith)
     (ap (told_by check_refusal) (p.1 ∙ ap Err p.2)
-    ∙ sym (then_err _ (sym c.loop-n.invariant ∙ rows_stop m c.args.limits.now table count size c.loop-n.n c.loop-n.state c.loop-n-test.true _ c.in-err-state.ensures)))
+    ∙ sym (then_err _ (sym c.loop-n.invariant ∙ rows_stop m c.args.limits.now table count size c.loop-n.n c.loop-n.state c.loop-n-test.true _ c.in_err-state.ensures)))
 
 pub loop-n-preserved : goal.loop-n-preserved
 loop-n-preserved g c =
-    sym (rows_more (g.M.Model.meaning c.args.model.now) c.args.limits.now c.args.rows.now c.args.count (omega arith) c.loop-n.n c.loop-n.state c.loop-n-test.true _ c.in-ok-state.ensures)
+    sym (rows_more (g.M.Model.meaning c.args.model.now) c.args.limits.now c.args.rows.now c.args.count (omega arith) c.loop-n.n c.loop-n.state c.loop-n-test.true _ c.in_ok-state.ensures)
     ∙ c.loop-n.invariant
 
 pub returns : goal.returns

@@ -12,10 +12,10 @@ returns g c =
     let a = c.args.self.now in
     let m = g.S.Model.meaning a.street in
     let n = c.args.number in
-    let plan = c.in-ok-plan.plan in
+    let plan = c.in_ok-plan.plan in
     let sheet = c.args.sheet.now in
-    let free = c.in-ok-vacant.ensures in
-    let accepted = c.in-ok-plan.ensures ∙ ap (λ ls. accepted_timing m ls sheet) c.as_slice.ensures.value in
+    let free = c.in_ok-vacant.ensures in
+    let accepted = c.in_ok-plan.ensures ∙ ap (λ ls. accepted_timing m ls sheet) c.as_slice.ensures.value in
     let put = put_in a.book.shelf n plan (from_one n (ask_empty (shelf_of a.book.shelf) n) free) in
     record {
       does = shelved m (limits_of a) (area_of g.S.Street.seen a) n sheet (timing_of plan) _ _ free accepted c.length-count.ensures put;

@@ -17,8 +17,8 @@ more c =
     let e = sum_by_more (turned_into c.args.out.now c.args.k) n.turns c.loop-t.t-index no_turn h in
     cc
 
-pub overflow-add-sum : goal.overflow-add-sum
-overflow-add-sum c =
+pub overflow_add-sum : goal.overflow_add-sum
+overflow_add-sum c =
     let n = roads c.args.self.now in
     let f = turned_into c.args.out.now c.args.k in
     omega (arith, more c, sum_by-take-le f n.turns (c.loop-t.t-index + 1), inflow_small n (sound c.args.self.now) c.args.out.now c.requires.small c.args.k)

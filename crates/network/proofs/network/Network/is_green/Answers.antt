@@ -3,8 +3,8 @@ use Rattle.std.proofs.lemmas.Bool.{leb-true}
 use Rattle.model.proofs.State.{every_at}
 use Rattle.network.proofs.network.Network.is_green.Goals as goal
 
-pub overflow-shr-result : goal.overflow-shr-result
-overflow-shr-result c =
+pub overflow_shr-result : goal.overflow_shr-result
+overflow_shr-result c =
     let n = c.args.self.now in
     let ps = vec_items n.phases in
     let j = c.link_at-link.result.head - 1 in

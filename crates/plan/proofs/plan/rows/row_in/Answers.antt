@@ -8,12 +8,12 @@ returns-then-n-count c =
     let past : length (take c.args.count rs) ≤ c.args.n =
     ⊎_elim
     (λ h. omega (arith, length-take c.args.count rs, h))
-    (λ h. omega (arith, length-take c.args.count rs, c.told_rows, h.1))
+    (λ h. omega (arith, length-take c.args.count rs, c.told-rows, h.1))
     c.then-n-count.either in
     sym (get_or_past (take c.args.count rs) c.args.n c.args.other past)
 
 pub returns : goal.returns
 returns c =
     let rs = c.args.rows.now in
-    get_or_default rs c.args.n [] c.args.other (omega (arith, c.told_rows, c.if-n-ge64.false))
+    get_or_default rs c.args.n [] c.args.other (omega (arith, c.told-rows, c.if-n-ge64.false))
     ∙ sym (get_or-take c.args.count rs c.args.n c.args.other c.if-n-count.false)
