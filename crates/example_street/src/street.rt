@@ -37,7 +37,7 @@ fn fit_to_send<M: Model>(model: &M, row: [u8; 32]) -> [u8; 32]
     if model.legal(row) { row } else { model.dark() }
 }
 
-pub impl<M: Model, C: Controller> Model for BoxStreet<M, C> as BoxStreetModel {
+impl<M: Model, C: Controller> Model for BoxStreet<M, C> {
     ghost meaning = { λ s. M.Model.meaning s.model };
 
     ghost lawful = { λ s. M.Model.lawful s.model };

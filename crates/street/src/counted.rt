@@ -41,7 +41,7 @@ impl<M: Model> CountedStreet<M> {
     }
 }
 
-pub impl<M: Model> Model for CountedStreet<M> as CountedStreetModel {
+impl<M: Model> Model for CountedStreet<M> {
     ghost meaning = { λ s. M.Model.meaning s.model };
 
     ghost lawful = { λ s. M.Model.lawful s.model };

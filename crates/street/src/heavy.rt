@@ -42,7 +42,7 @@ fn show_loaded<M: Model>(
     standing.show(model, false, row, loads)
 }
 
-pub impl<M: Model> Model for HeavyStreet<M> as HeavyStreetModel {
+impl<M: Model> Model for HeavyStreet<M> {
     ghost meaning = { λ s. M.Model.meaning s.model };
 
     ghost lawful = { λ s. M.Model.lawful s.model };

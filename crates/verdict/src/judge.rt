@@ -4,10 +4,8 @@ ghost use Rattle.plan_sheet.specs.Accepts.{checked_sheet};
 ghost use Rattle.verdict.specs.Judged.{verdict_of, Faulted, begins_linear, linear_verdict, network_verdict, verdict_on, NetworkSaid, LinearSaid, ModelSaid, Right};
 
 use crate::verdict::Verdict;
-use linear::linear::LinearModel;
 use linear_sheet::read::read_linear;
 use model::Model;
-use network::network::NetworkModel;
 use network_sheet::read::read_network;
 use plan::limits::Limit;
 use plan_sheet::check::check_sheet;

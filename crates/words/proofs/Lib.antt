@@ -1,6 +1,5 @@
 mod Steps
 mod Values
-mod Sections
 pub mod Written
 pub mod Spelled
 pub mod Due

@@ -8,7 +8,7 @@ use crate::tests::tables::PLAN;
 use crate::tests::{Stands, Told, check_stands, told_done, told_of, told_rows, told_step};
 use area::area::{Area, Duty, Unspent};
 use lives::state::State;
-use network::network::{Network, NetworkModel};
+use network::network::Network;
 use std::alloc::Global;
 use std::process::Abort;
 use std::test::Fail;

@@ -1,8 +1,8 @@
 // Areas over both streets and both models, made from sheets.
 use area::area::Area;
-use linear::linear::{Linear, LinearModel};
+use linear::linear::Linear;
 use linear_sheet::read::{LinearRead, read_linear};
-use network::network::{Network, NetworkModel};
+use network::network::Network;
 use network_sheet::read::{NetworkRead, read_network};
 use std::alloc::{AllocError, Global};
 use std::test::Fail;

@@ -5,7 +5,6 @@ use crate::tests::tables::{PLAN, WIDE};
 use crate::tests::{Stands, Told, check_stands, told_rows};
 use area::area::Area;
 use lives::state::State;
-use network::network::NetworkModel;
 use std::process::Abort;
 use std::test::Fail;
 use street::Street;

@@ -6,9 +6,7 @@ use crate::tests::tables::{
 };
 use crate::tests::{check_stands, told_rows};
 use area::area::Area;
-use linear::linear::LinearModel;
 use lives::state::State;
-use network::network::NetworkModel;
 use std::process::Abort;
 use std::test::Fail;
 use street::Street;

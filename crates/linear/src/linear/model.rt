@@ -39,7 +39,7 @@ impl Linear {
     }
 }
 
-pub impl Model for Linear as LinearModel {
+impl Model for Linear {
     ghost meaning = { λ m. linear (lines m) };
 
     ghost lawful = { λ m. Laws.lawful (lines m) (sound m) };

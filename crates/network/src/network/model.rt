@@ -27,7 +27,7 @@ impl Network {
     }
 }
 
-pub impl Model for Network as NetworkModel {
+impl Model for Network {
     ghost meaning = { λ m. network (roads m) };
 
     ghost lawful = { λ m. Laws.lawful (roads m) (sound m) };

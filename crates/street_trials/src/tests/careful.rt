@@ -2,8 +2,6 @@
 use crate::tests::groups::{Given, groups_of};
 use crate::tests::sheets::{corridor, two_modes};
 use crate::tests::{check_stands, row_of, state_of};
-use linear::linear::LinearModel;
-use network::network::NetworkModel;
 use std::process::Abort;
 use std::test::Fail;
 use street::careful::show_if_clear;

@@ -2,9 +2,7 @@
 use crate::tests::groups::{Given, groups_of};
 use crate::tests::sheets::{corridor, two_modes};
 use crate::tests::{Shown, check_stands, state_of, try_step};
-use linear::linear::LinearModel;
 use model::Model;
-use network::network::NetworkModel;
 use std::process::Abort;
 use std::test::Fail;
 use street::counted::CountedStreet;

@@ -3,8 +3,6 @@ use crate::tests::sheets::{corridor, two_modes};
 use crate::tests::{Shown, check_stands, state_of, try_steps};
 use example_street::controller::Controller;
 use example_street::street::BoxStreet;
-use linear::linear::LinearModel;
-use network::network::NetworkModel;
 use std::test::Fail;
 
 // It does not take a row that begins with mode 2, and counts by the first mode that it was sent.

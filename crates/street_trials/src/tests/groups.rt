@@ -1,9 +1,7 @@
 // Groups for a counted street, and what becomes of the sixty-fifth.
 use crate::tests::sheets::{corridor, two_modes};
 use crate::tests::{row_of, state_of};
-use linear::linear::LinearModel;
 use model::Model;
-use network::network::NetworkModel;
 use std::alloc::{AllocError, Global};
 use std::process::Abort;
 use std::test::Fail;

@@ -1,9 +1,7 @@
 // The heavy street over both models: every step brings the greatest arrivals.
 use crate::tests::sheets::{corridor, two_modes};
 use crate::tests::{Shown, check_stands, state_of, try_steps};
-use linear::linear::LinearModel;
 use model::Model;
-use network::network::NetworkModel;
 use std::process::Abort;
 use std::test::Fail;
 use street::heavy::HeavyStreet;

@@ -1,9 +1,7 @@
 // The model's questions asked of a street: it answers as its model does.
 use crate::tests::sheets::{corridor, two_modes};
 use crate::tests::{number_of, row_of, state_of};
-use linear::linear::LinearModel;
 use model::{Answer, Cause, Model};
-use network::network::NetworkModel;
 use std::process::Abort;
 use std::test::Fail;
 use street::counted::CountedStreet;
