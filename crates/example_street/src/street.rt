@@ -5,6 +5,7 @@ ghost use Rattle.street.specs.Standing.{seen_of, fresh_seen};
 
 use crate::controller::{Controller, counts_of};
 use model::{Model, Step};
+use model::Model as QueueModel;
 use street::standing::Standing;
 use street::{Showing, Street};
 
@@ -37,7 +38,7 @@ fn fit_to_send<M: Model>(model: &M, row: [u8; 32]) -> [u8; 32]
     if model.legal(row) { row } else { model.dark() }
 }
 
-impl<M: Model, C: Controller> Model for BoxStreet<M, C> {
+impl<M: Model, C: Controller> QueueModel for BoxStreet<M, C> {
     ghost meaning = { λ s. M.Model.meaning s.model };
 
     ghost lawful = { λ s. M.Model.lawful s.model };

@@ -9,6 +9,7 @@ use crate::groups::{Group, Groups};
 use crate::standing::Standing;
 use crate::{Showing, Street};
 use model::{Model, Step};
+use model::Model as QueueModel;
 
 #[derive(Drop)]
 pub struct CountedStreet<M> {
@@ -41,7 +42,7 @@ impl<M: Model> CountedStreet<M> {
     }
 }
 
-impl<M: Model> Model for CountedStreet<M> {
+impl<M: Model> QueueModel for CountedStreet<M> {
     ghost meaning = { λ s. M.Model.meaning s.model };
 
     ghost lawful = { λ s. M.Model.lawful s.model };

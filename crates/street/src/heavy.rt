@@ -8,6 +8,7 @@ use crate::standing::Standing;
 use crate::{Showing, Street};
 use model::states::loads_of;
 use model::{Model, Step};
+use model::Model as QueueModel;
 
 #[derive(Drop)]
 pub struct HeavyStreet<M> {
@@ -42,7 +43,7 @@ fn show_loaded<M: Model>(
     standing.show(model, false, row, loads)
 }
 
-impl<M: Model> Model for HeavyStreet<M> {
+impl<M: Model> QueueModel for HeavyStreet<M> {
     ghost meaning = { λ s. M.Model.meaning s.model };
 
     ghost lawful = { λ s. M.Model.lawful s.model };

@@ -8,7 +8,7 @@ ghost use Rattle.linear.specs.Ranges.{sound};
 
 use super::Linear;
 use model::states::{capped_by, fits_modes, lowest_place_above};
-use model::{Answer, Cause, Model, Step};
+use model::{Answer, Cause, Model as QueueModel, Step};
 
 // One signal has all the modes.
 const SIGNALS: usize = 1;
@@ -39,7 +39,7 @@ impl Linear {
     }
 }
 
-impl Model for Linear {
+impl QueueModel for Linear {
     ghost meaning = { λ m. linear (lines m) };
 
     ghost lawful = { λ m. Laws.lawful (lines m) (sound m) };

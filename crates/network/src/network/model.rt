@@ -9,7 +9,7 @@ ghost use Rattle.network.specs.Ranges.{sound};
 use super::Network;
 use super::held::lowest_held;
 use model::states::{capped_by, fits_modes};
-use model::{Model, Step};
+use model::{Model as QueueModel, Step};
 
 // Mode 0 at every junction.
 fn all_red() -> [u8; 32]
@@ -27,7 +27,7 @@ impl Network {
     }
 }
 
-impl Model for Network {
+impl QueueModel for Network {
     ghost meaning = { λ m. network (roads m) };
 
     ghost lawful = { λ m. Laws.lawful (roads m) (sound m) };
