@@ -76,7 +76,7 @@ impl QueueModel for Linear {
 
     // Clear exactly where no top cuts a value off.
     fn step(&self, row: [u8; 32], state: [u32; 64], arrivals: [u32; 64]) -> Step
-        ensures value { result ≡ stepped (linear (lines self.now)) row state arrivals }
+        ensures is { result ≡ stepped (linear (lines self.now)) row state arrivals }
         ensures clear_where_fits { ClearWhereFits (lines self.now) row state arrivals result.answer }
     {
         let tops = self.tops();

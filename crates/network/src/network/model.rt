@@ -64,7 +64,7 @@ impl QueueModel for Network {
 
     // Clear exactly where each link lets out its wish and no top cuts a queue off.
     fn step(&self, row: [u8; 32], state: [u32; 64], arrivals: [u32; 64]) -> Step
-        ensures value { result ≡ stepped (network (roads self.now)) row state arrivals }
+        ensures is { result ≡ stepped (network (roads self.now)) row state arrivals }
         ensures clear_where_flows { ClearWhereFlows (roads self.now) row state arrivals result.answer }
     {
         let tops = self.tops();

@@ -20,4 +20,4 @@ returns c =
     c.tops-tops.ensures c.lit-lamps.ensures c.capped_by-values.ensures
     (c.capped_by-coming.ensures ∙ ap (λ t. capped t c.args.arrivals) c.loads.ensures)
     c.amounts-amounts.ensures c.capped_by-next.ensures c.lowest_place_above.ensures c.verdict-answer.ensures in
-    (e, fits_exactly n (sound c.args.self.now) c.args.row c.args.state c.args.arrivals _ (ap (λ s. s.answer) e))
+    record { is = e; clear_where_fits = fits_exactly n (sound c.args.self.now) c.args.row c.args.state c.args.arrivals _ (ap (λ s. s.answer) e) }

@@ -28,4 +28,4 @@ returns c =
     (c.capped_by-coming.ensures ∙ ap (λ t. capped t c.args.arrivals) c.loads.ensures)
     c.amounts-amounts.ensures c.capped_by-next.ensures
     (c.lowest_held-answer.ensures ∙ ap (λ j. lowest j (verdict_at c.wishes-wishes.result c.releases-out.result c.amounts-amounts.result c.tops-tops.result)) c.places.ensures) in
-    (e, flows_exactly n (sound c.args.self.now) c.args.row c.args.state c.args.arrivals _ (ap (λ s. s.answer) e))
+    record { is = e; clear_where_flows = flows_exactly n (sound c.args.self.now) c.args.row c.args.state c.args.arrivals _ (ap (λ s. s.answer) e) }
