@@ -32,6 +32,7 @@ for path in sorted(glob.glob("crates/*/proofs/**/*.antt", recursive=True)):
     new = re.sub(r"(?<![\w'])((?:[\w']+-)*)in-(ok|err)-", r"\1in_\2-", new)
     new = re.sub(r"(?<![\w'-])overflow-(add|mul|sub|cast|shr|shl|neg)-", r"overflow_\1-", new)
     new = re.sub(r"(?<![\w'-])slice-bounds-", "slice_bounds-", new)
+    new = re.sub(r"(?<![\w'-])invariant-of-", "invariant_of-", new)
     new = re.sub(r"\bc\.told_rows\b", "c.told-rows", new)
     if new != text:
         Path(path).write_text(new)

@@ -13,8 +13,8 @@ entries_section-requires c =
     let p = places_ok c.args.bytes.now c.in_ok-modes.modes.end c.in_ok-places.ensures in
     (c.in_ok-modes.ensures.within.1, omega (arith, p.1))
 
-pub invariant-of-model : goal.invariant-of-model
-invariant-of-model c =
+pub invariant_of-model : goal.invariant_of-model
+invariant_of-model c =
     let modes = c.in_ok-modes.modes.value in
     let places = c.in_ok-places.places in
     let m = c.in_ok-modes.ensures.within in
