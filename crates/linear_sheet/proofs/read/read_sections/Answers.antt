@@ -21,4 +21,4 @@ invariant_of-model c =
     let p = places_ok c.args.bytes.now c.in_ok-modes.modes.end c.in_ok-places.ensures in
     let e = entries_ok c.args.bytes.now modes c.len-count.result places.end c.in_ok-entries.ensures in
     let counted : c.len-count.result ≡ length (vec_items places.items) = omega arith in
-    (m.0, (m.1, (p.0, (p.1, (p.2, (e.0 ∙ ap (entry_count modes) counted, (e.1, tt)))))))
+    record { moded = m.0; short = m.1; some = p.0; few = p.1; placed = p.2; full = e.0 ∙ ap (entry_count modes) counted; entered = e.1 }

@@ -22,4 +22,4 @@ invariant_of-network c =
     let p = phases_ok c.args.bytes.now c.in_ok-signals.ensures in
     let l = links_ok c.args.bytes.now c.in_ok-signals.ensures c.as_slice.ensures.value c.in_ok-links.ensures in
     let t = turns_ok c.args.bytes.now c.in_ok-links.links.end c.as_slice-2.ensures.value l.1 c.in_ok-turns.ensures in
-    (p, (l.0, (l.1, (l.2, (t.0, (t.1, tt))))))
+    record { phased = p; some = l.0; few = l.1; linked = l.2; short = t.0; turned = t.1 }
