@@ -7,6 +7,7 @@ use crate::call::DayCall;
 use crate::run::Done;
 use area::area::Area;
 use lives::state::{Loss, State};
+use std::alloc::AllocError;
 use std::fmt;
 use street::Street;
 
@@ -86,14 +87,18 @@ impl fmt::Display for Head {
     }
 }
 
-fn write_number(out: &mut String, n: u32) -> fmt::Result
+fn write_number(out: &mut String, n: u32) -> Result<(), AllocError>
     ensures { OnOk result (string_bytes out.new ≡ string_bytes out.old ++ (codes " " ++ decimal n)) }
 {
     write!(out, " {n}")
 }
 
 // The envelope at each place.
-fn write_envelope<S: Street>(out: &mut String, area: &Area<S>, places: usize) -> fmt::Result
+fn write_envelope<S: Street>(
+    out: &mut String,
+    area: &Area<S>,
+    places: usize,
+) -> Result<(), AllocError>
     ensures { OnOk result (string_bytes out.new ≡ string_bytes out.old ++ numbers_from (area_of S.Street.seen area.now).book.envelope places 0) }
 {
     for k in 0..places {
@@ -102,7 +107,12 @@ fn write_envelope<S: Street>(out: &mut String, area: &Area<S>, places: usize) ->
     Ok(())
 }
 
-fn write_head<S: Street>(out: &mut String, area: &Area<S>, call: DayCall, done: Done) -> fmt::Result
+fn write_head<S: Street>(
+    out: &mut String,
+    area: &Area<S>,
+    call: DayCall,
+    done: Done,
+) -> Result<(), AllocError>
     ensures { OnOk result (string_bytes out.new ≡ string_bytes out.old ++ head_text call done (area_of S.Street.seen area.now).book.state (area_of S.Street.seen area.now).book.row) }
 {
     let state = Written {
@@ -118,7 +128,7 @@ fn write_head<S: Street>(out: &mut String, area: &Area<S>, call: DayCall, done: 
     write!(out, "{head}")
 }
 
-fn write_end(out: &mut String) -> fmt::Result
+fn write_end(out: &mut String) -> Result<(), AllocError>
     ensures { OnOk result (string_bytes out.new ≡ string_bytes out.old ++ (10 ∷ [])) }
 {
     writeln!(out)
@@ -131,7 +141,7 @@ pub(crate) fn write_line<S: Street>(
     places: usize,
     call: DayCall,
     done: Done,
-) -> fmt::Result
+) -> Result<(), AllocError>
     ensures { OnOk result (string_bytes out.new ≡ string_bytes out.old ++ line_text call done (area_of S.Street.seen area.now).book places) }
 {
     write_head(out, area, call, done)?;
