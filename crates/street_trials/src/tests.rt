@@ -104,8 +104,8 @@ pub(crate) fn try_steps<S: Street>(
     street: &mut S,
     steps: &[Shown],
 ) -> Result<(), Fail> {
-    for (k, step) in steps.iter().enumerate() {
-        try_step(rt, street, step).note(format_args!("step {k}"))?;
+    for step in steps {
+        try_step(rt, street, step)?;
     }
     Ok(())
 }

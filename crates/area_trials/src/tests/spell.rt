@@ -89,8 +89,8 @@ pub(crate) fn try_calls<S: Street>(
     requires { OnDuty S.Street.seen area.old duty.now }
     ensures { OnDuty S.Street.seen area.new duty.now }
 {
-    for (k, called) in calls.iter().enumerate() {
-        try_call(rt, area, duty, called).note(format_args!("call {k}"))?;
+    for called in calls {
+        try_call(rt, area, duty, called)?;
     }
     Ok(())
 }

@@ -133,7 +133,7 @@ fn try_careful<S: Street>(rt: &impl Abort, street: &mut S, tried: &[Tried]) -> R
     for (k, one) in tried.iter().enumerate() {
         let (row, answer, queues, lamps, arrivals) = *one;
         assert_eq!(rt; show_if_clear(street, row_of(row)), answer, "row {k}");
-        check_stands(rt, street, queues, lamps, arrivals).note(format_args!("row {k}"))?;
+        check_stands(rt, street, queues, lamps, arrivals)?;
     }
     Ok(())
 }

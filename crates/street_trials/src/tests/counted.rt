@@ -61,7 +61,7 @@ fn try_counted<M: Model>(
 ) -> Result<(), Fail> {
     for (k, step) in steps.iter().enumerate() {
         let left = street.groups_left();
-        try_step(rt, street, step).note(format_args!("step {k}"))?;
+        try_step(rt, street, step)?;
         assert_eq!(rt; street.groups_left(), left.saturating_sub(1), "step {k}");
     }
     Ok(())
