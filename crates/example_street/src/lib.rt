@@ -1,5 +1,5 @@
 // An example: a street in front of a controller, to copy and to change.
 #![tactic(auto)]
 
+pub mod box_street;
 pub mod controller;
-pub mod street;

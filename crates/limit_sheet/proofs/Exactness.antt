@@ -1,6 +1,6 @@
 -- A limit is read exactly where its words say it.
 use Rattle.std.proofs.Common.{◌≡◌, ℕ, zero, suc, ◌+◌, ◌-◌, ◌≤◌, false, List, [], ◌∷◌, length, take, set, replicate, Ok, decimal, sym, refl, ap, ◌∙◌, subst, ⊎_elim, arith}
-use Rattle.std.specs.List.{flat_map, AllByRecursion as All}
+use Rattle.std.specs.List.{flat_map, AllByRecursion}
 use Rattle.std.proofs.lemmas.Bool.{cond-true, cond-false, cases_Bool, or_parts, or_from, eqb-false, ne_eqb}
 use Rattle.refusal.specs.Questions.{no, turns}
 use Rattle.refusal.proofs.Turning.{then_ok, then_parts, ok_same}
@@ -17,11 +17,11 @@ use Rattle.limit_sheet.specs.declared.Terms.{Terms}
 use Rattle.limit_sheet.specs.Limits.{no_term, named_in, repeated, term_at, next_term, terms_at, limit_at, term_text, TermOf, Once, LimitSaid}
 
 -- the test for a repeated place tells whether each is named once
-named_none : (p : ℕ) (ts : List Term) → named_in p ts ≡ false → All (λ u. u.place ≡ p → ⊥) ts
+named_none : (p : ℕ) (ts : List Term) → named_in p ts ≡ false → AllByRecursion (λ u. u.place ≡ p → ⊥) ts
 named_none p [] h = tt
 named_none p (t ∷ ts) h = let q = or_parts _ _ h in (eqb-false t.place p q.0, named_none p ts q.1)
 
-none_named : (p : ℕ) (ts : List Term) → All (λ u. u.place ≡ p → ⊥) ts → named_in p ts ≡ false
+none_named : (p : ℕ) (ts : List Term) → AllByRecursion (λ u. u.place ≡ p → ⊥) ts → named_in p ts ≡ false
 none_named p [] h = refl
 none_named p (t ∷ ts) h = or_from _ _ (ne_eqb t.place p h.0) (none_named p ts h.1)
 
@@ -57,7 +57,7 @@ module _ (bs : List ℕ) (places : ℕ) (bounded : places ≤ 64) where
   record TermsSaid (n k : ℕ) (s t : Terms) : Type 0 where
     terms : List Term
     long : length terms ≡ n
-    each : All (TermOf places) terms
+    each : AllByRecursion (TermOf places) terms
     words : Spelled bs s.end (flat_map term_text terms) t.end
     table : t.table ≡ written s.table k terms
 
@@ -77,7 +77,7 @@ module _ (bs : List ℕ) (places : ℕ) (bounded : places ≤ 64) where
         table = r.table ∙ ap (λ x. written x (k + 1) r.terms) (sym (ap (λ u. u.table) is));
       }
 
-  terms_read : (ts : List Term) (k : ℕ) (s : Terms) (to : ℕ) → All (TermOf places) ts → Spelled bs s.end (flat_map term_text ts) to → turns (next_term bs places) (length ts) k s ≡ Ok (record { table = written s.table k ts; end = to })
+  terms_read : (ts : List Term) (k : ℕ) (s : Terms) (to : ℕ) → AllByRecursion (TermOf places) ts → Spelled bs s.end (flat_map term_text ts) to → turns (next_term bs places) (length ts) k s ≡ Ok (record { table = written s.table k ts; end = to })
   terms_read [] k s to a h = ap (λ e. Ok (record { table = s.table; end = e })) h
   terms_read (t ∷ ts) k s to a h =
       let p = spelled_split bs (term_text t) (flat_map term_text ts) s.end to h in

@@ -1,6 +1,6 @@
 -- The limits of a model sheet.
 use Rattle.std.specs.Prelude.{◌≡◌, ℕ, ◌≤◌, Bool, false, cond, ◌||◌, List, [], ◌∷◌, length, take, replicate, Ok, codes, decimal, ◌==◌, ◌≢◌, slice_set}
-use Rattle.std.specs.List.{flat_map, AllByRecursion as All}
+use Rattle.std.specs.List.{flat_map, AllByRecursion}
 use Rattle.refusal.specs.Questions.{Told, then, no, turns}
 use Rattle.words.specs.Numbers.{number_at}
 use Rattle.words.specs.Spelling.{Spelled}
@@ -69,14 +69,14 @@ pub record TermOf (places : ℕ) (t : Term) : Type 0 where
 -- each place is named once
 abbrev pub Once : List Term → Type 0
 Once [] = Unit {0}
-Once (t ∷ ts) = All (λ u. u.place ≢ t.place) ts × Once ts
+Once (t ∷ ts) = AllByRecursion (λ u. u.place ≢ t.place) ts × Once ts
 
 -- the words from place `at` to `to` are those of the limit l
 pub record LimitSaid (bs : List ℕ) (places : ℕ) (before : List Limit) (at : ℕ) (l : Limit) (to : ℕ) : Type 0 where
   pub terms : List Term
   pub some : 1 ≤ length terms
   pub few : length terms ≤ 8
-  pub each : All (TermOf places) terms
+  pub each : AllByRecursion (TermOf places) terms
   pub once : Once terms
   pub bound : l.bound ≤ 999999999
   pub count : l.count ≡ length terms

@@ -21,5 +21,5 @@ pub struct Linear {
     ghost entered: { EntriesOk entries.items },
 }
 
-pub mod model;
+pub mod as_model;
 mod step;

@@ -2,7 +2,7 @@
 use Rattle.std.specs.Prelude.{◌≡◌, ℕ, ◌+◌, ◌-◌, ◌*◌, ◌/◌, ◌<◌, ◌≤◌, min, List, [], ◌∷◌, length, take, fold, ◌==◌, ◌≢◌, slice_index, slice_index_or}
 use Rattle.std.proofs.Math.Path.{sym}
 use Rattle.std.proofs.Common.{ap, ◌∙◌, le_refl, le_trans, mul_comm, le-div_iff_mul-le, arith}
-use Rattle.std.specs.List.{AllByRecursion as All}
+use Rattle.std.specs.List.{AllByRecursion}
 use Rattle.std.proofs.ByRecursion.{All-from_get_or}
 use Rattle.std.proofs.lemmas.List.Sums.{fold_more}
 use Rattle.std.proofs.lemmas.Bool.{cond_both, cond-true, cond-false, eqb-true, eq-eqb, ne_eqb}
@@ -36,7 +36,7 @@ module _ (n : Roads) (q : List ℕ) (k : ℕ) where
   folded_le [] w = le_refl w
   folded_le (t ∷ ts) w = le_trans (folded_le ts (tightened n q k w t)) (tightened_le w t)
 
-  folded_fits : (ts : List Turn) (w m : ℕ) → All (λ t. 1 ≤ t.share) ts → m ≤ fold (tightened n q k) w ts → All (Fits n q k m) ts
+  folded_fits : (ts : List Turn) (w m : ℕ) → AllByRecursion (λ t. 1 ≤ t.share) ts → m ≤ fold (tightened n q k) w ts → AllByRecursion (Fits n q k m) ts
   folded_fits [] w m ss h = tt
   folded_fits (t ∷ ts) w m ss h = (
     λ e. under m t.share (t.supply * room n q t) ss.0 (here e),
@@ -46,7 +46,7 @@ module _ (n : Roads) (q : List ℕ) (k : ℕ) where
       here : t.from ≡ k + 1 → m ≤ passage n q t
       here e = omega (arith, folded_le ts (tightened n q k w t), tightened_here w t e)
 
-  folded_most : (ts : List Turn) (w m : ℕ) → All (λ t. 1 ≤ t.share) ts → m ≤ w → All (Fits n q k m) ts → m ≤ fold (tightened n q k) w ts
+  folded_most : (ts : List Turn) (w m : ℕ) → AllByRecursion (λ t. 1 ≤ t.share) ts → m ≤ w → AllByRecursion (Fits n q k m) ts → m ≤ fold (tightened n q k) w ts
   folded_most [] w m ss h fs = h
   folded_most (t ∷ ts) w m ss h fs =
       folded_most ts (tightened n q k w t) m ss.1
@@ -64,7 +64,7 @@ release_greatest n ok r q k =
       most = λ j h fs. folded_most n q k n.turns (wish n r q k) j shares h fs;
     }
   where
-    shares : All (λ t. 1 ≤ t.share) n.turns
+    shares : AllByRecursion (λ t. 1 ≤ t.share) n.turns
     shares = All-from_get_or (λ t. 1 ≤ t.share) n.turns no_turn (λ i h. (ok.turned i h).2.0)
 
 -- what each link lets out after the first i turns

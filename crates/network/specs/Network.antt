@@ -2,7 +2,7 @@
 -- Links are counted from 0 here, as the places of a state are, and from 1 in a turn and in an answer.
 -- In a step r is the row that counts, q the queues before it within the tops, and v the arrivals within the loads.
 use Rattle.std.specs.Prelude.{◌≡◌, ℕ, ◌+◌, ◌-◌, ◌*◌, ◌/◌, ◌%◌, ◌^◌, ◌<◌, ◌≤◌, min, Bool, cond, ◌&&◌, List, [], ◌∷◌, length, get_or, Some, None, fold, sum_by, Option, ◌==◌, nat_lt, slice_index, slice_index_or}
-use Rattle.std.specs.List.{AllByRecursion as All}
+use Rattle.std.specs.List.{AllByRecursion}
 use Rattle.model.specs.declared.Answer.{Answer}
 use Rattle.model.specs.declared.Answer.TheVariants.{Clear, Held}
 use Rattle.model.specs.declared.Cause.TheVariants.{Blocked, Overflow}
@@ -60,8 +60,8 @@ Fits n q k m t = t.from ≡ k + 1 → t.share * m ≤ t.supply * room n q t
 -- m is the greatest number not above the wish of link k that fits each turn
 pub record Greatest (n : Roads) (r q : List ℕ) (k m : ℕ) : Type 0 where
   pub below : m ≤ wish n r q k
-  pub fits : All (Fits n q k m) n.turns
-  pub most : (j : ℕ) → j ≤ wish n r q k → All (Fits n q k j) n.turns → j ≤ m
+  pub fits : AllByRecursion (Fits n q k m) n.turns
+  pub most : (j : ℕ) → j ≤ wish n r q k → AllByRecursion (Fits n q k j) n.turns → j ≤ m
 
 -- the most that the turn t has room for
 abbrev pub passage : Roads → List ℕ → Turn → ℕ

@@ -18,8 +18,8 @@ pub struct Network {
     ghost turned: { TurnsOk (length links.items) turns.items },
 }
 
+pub mod as_model;
 mod held;
-pub mod model;
 mod release;
 mod share;
 mod step;

@@ -1,6 +1,6 @@
 -- A turn is read exactly where its words stand and it fits to those before it.
 use Rattle.std.proofs.Common.{◌≡◌, ℕ, ◌+◌, ◌≤◌, false, eqb, leb, List, [], ◌∷◌, Ok, sum_by, refl, ap, ◌∙◌, subst, ⊎_elim, arith}
-use Rattle.std.specs.List.{AllByRecursion as All}
+use Rattle.std.specs.List.{AllByRecursion}
 use Rattle.std.proofs.lemmas.Bool.{cond-true, cond-false, cases_Bool, both_ways, and_parts, and_from, or_parts, or_from, eq-eqb, eqb-true, leb-true, le-leb}
 use Rattle.refusal.proofs.Turning.{ok_same}
 use Rattle.words.proofs.Due.{due, found}
@@ -18,13 +18,13 @@ use Rattle.network_sheet.proofs.Asked.{passed, passed_not}
 abbrev OtherPair : Turn → Turn → Type 0
 OtherPair t u = u.from ≡ t.from → u.to ≡ t.to → ⊥
 
-not_given : (t : Turn) (ts : List Turn) → given_in t.from t.to ts ≡ false → All (OtherPair t) ts
+not_given : (t : Turn) (ts : List Turn) → given_in t.from t.to ts ≡ false → AllByRecursion (OtherPair t) ts
 not_given t [] h = tt
 not_given t (u ∷ us) h =
     let p = or_parts (joins u t.from t.to) (given_in t.from t.to us) h in
     (λ a b. both_ways _ p.0 (and_from _ _ (eq-eqb u.from t.from a) (eq-eqb u.to t.to b)), not_given t us p.1)
 
-given_not : (t : Turn) (ts : List Turn) → All (OtherPair t) ts → given_in t.from t.to ts ≡ false
+given_not : (t : Turn) (ts : List Turn) → AllByRecursion (OtherPair t) ts → given_in t.from t.to ts ≡ false
 given_not t [] h = refl
 given_not t (u ∷ us) h =
     let other : joins u t.from t.to ≡ false = ⊎_elim (λ e. let p = and_parts (eqb u.from t.from) (eqb u.to t.to) e in absurd (h.0 (eqb-true u.from t.from p.0) (eqb-true u.to t.to p.1))) (λ e. e) (cases_Bool (joins u t.from t.to)) in

@@ -1,6 +1,6 @@
 -- The records of the section `turns`. Phases are counted from 0 here, as the bits of a mask are.
 use Rattle.std.specs.Prelude.{◌≡◌, ℕ, ◌+◌, ◌-◌, ◌/◌, ◌%◌, ◌^◌, ◌<◌, ◌≤◌, Bool, false, cond, ◌&&◌, ◌||◌, List, [], ◌∷◌, Ok, decimal, sum_by, ◌==◌, ◌≢◌, nat_le, slice_index_or}
-use Rattle.std.specs.List.{AllByRecursion as All}
+use Rattle.std.specs.List.{AllByRecursion}
 use Rattle.refusal.specs.Questions.{Told, no, then}
 use Rattle.words.specs.Numbers.{number_at}
 use Rattle.words.specs.Spelling.{Spelled}
@@ -84,7 +84,7 @@ pub record TurnOf (count : ℕ) (t : Turn) : Type 0 where
 -- how a turn fits to the links and to the turns before it
 pub record TurnFits (links : List Link) (before : List Turn) (t : Turn) : Type 0 where
   pub meets : (numbered links t.to).tail ≡ (numbered links t.from).head
-  pub once : All (λ u. u.from ≡ t.from → u.to ≢ t.to) before
+  pub once : AllByRecursion (λ u. u.from ≡ t.from → u.to ≢ t.to) before
   pub shared : sum_by (share_from t.from) before + t.share ≤ 1000
   pub supplied : (phase : ℕ) → phase < 8 → sum_by (supply_into links phase t.to) before + supply_into links phase t.to t ≤ 1000
 

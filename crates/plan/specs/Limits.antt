@@ -1,6 +1,6 @@
 -- Limits, and the states that keep them.
 use Rattle.std.specs.Prelude.{ℕ, ◌+◌, ◌*◌, ◌≤◌, cond, List, [], ◌∷◌, Some, None, sum_by, Option, nat_lt}
-use Rattle.std.specs.List.{AllByRecursion as All}
+use Rattle.std.specs.List.{AllByRecursion}
 use Rattle.model.specs.State.{told}
 use Rattle.plan.specs.declared.limits.Term.{Term}
 use Rattle.plan.specs.declared.limits.Limit.{Limit}
@@ -23,7 +23,7 @@ Kept x l = total x l.terms ≤ l.bound
 
 -- the state keeps every limit
 abbrev pub Keeps : List Limit → List ℕ → Type 0
-Keeps ls x = All (Kept x) ls
+Keeps ls x = AllByRecursion (Kept x) ls
 
 -- the first limit, counted from n, that the state does not keep
 abbrev pub broken_from : ℕ → List Limit → List ℕ → Option ℕ

@@ -1,6 +1,6 @@
 -- A plan sheet is accepted as exactly the plan that its words say.
 use Rattle.std.proofs.Common.{◌≡◌, ℕ, zero, suc, ◌+◌, ◌≤◌, List, [], ◌∷◌, map, length, set, replicate, Ok, codes, decimal, sym, refl, ap, ◌∙◌, subst, ⊎_elim, arith}
-use Rattle.std.specs.List.{flat_map, AllByRecursion as All}
+use Rattle.std.specs.List.{flat_map, AllByRecursion}
 use Rattle.std.proofs.lemmas.Bool.{cond-true, cond-false, cases_Bool}
 use Rattle.refusal.specs.Questions.{Told, no, then, turns}
 use Rattle.refusal.proofs.Turning.{then_parts, then_ok, ok_same}
@@ -53,7 +53,7 @@ module _ (m : Meaning) (bs : List ℕ) where
   record RowsSaid (n k : ℕ) (s t : Rows) : Type 0 where
     rows : List (List ℕ)
     long : length rows ≡ n
-    lawful : All (RowOf m) rows
+    lawful : AllByRecursion (RowOf m) rows
     spelled : Spelled bs s.end (flat_map (map decimal) rows) t.end
     table : t.table ≡ written s.table k (map (tabled 32) rows)
 
@@ -73,7 +73,7 @@ module _ (m : Meaning) (bs : List ℕ) where
         table = r.table ∙ ap (λ x. written x (k + 1) (map (tabled 32) r.rows)) (sym (ap (λ x. x.table) is) ∙ ap (set s.table k) d.table);
       }
 
-  rows_read : (rs : List (List ℕ)) (k : ℕ) (s : Rows) (to : ℕ) → All (RowOf m) rs → Spelled bs s.end (flat_map (map decimal) rs) to → (t : Rows) × (turns (next_row m bs) (length rs) k s ≡ Ok t) × (t.end ≡ to) × (t.table ≡ written s.table k (map (tabled 32) rs))
+  rows_read : (rs : List (List ℕ)) (k : ℕ) (s : Rows) (to : ℕ) → AllByRecursion (RowOf m) rs → Spelled bs s.end (flat_map (map decimal) rs) to → (t : Rows) × (turns (next_row m bs) (length rs) k s ≡ Ok t) × (t.end ≡ to) × (t.table ≡ written s.table k (map (tabled 32) rs))
   rows_read [] k s to l h = (s, refl, h, refl)
   rows_read (vs ∷ rs) k s to l h =
       let p = spelled_split bs (map decimal vs) (flat_map (map decimal) rs) s.end to h in
@@ -121,7 +121,7 @@ module _ (m : Meaning) (bs : List ℕ) where
     rows : List (List ℕ)
     some : 1 ≤ length rows
     few : length rows ≤ 64
-    lawful : All (RowOf m) rows
+    lawful : AllByRecursion (RowOf m) rows
     spelled : Spelled bs s.end (rows_words rows) p.end
     start : p.start ≡ s.queues
     table : p.rows ≡ row_table rows
@@ -144,7 +144,7 @@ module _ (m : Meaning) (bs : List ℕ) where
         count = sym d.long;
       })
 
-  section_back : (s : Start) (rs : List (List ℕ)) (to : ℕ) → 1 ≤ length rs → length rs ≤ 64 → All (RowOf m) rs → Spelled bs s.end (rows_words rs) to → rows_section m bs s ≡ Ok (record { start = s.queues; rows = row_table rs; count = length rs; end = to })
+  section_back : (s : Start) (rs : List (List ℕ)) (to : ℕ) → 1 ≤ length rs → length rs ≤ 64 → AllByRecursion (RowOf m) rs → Spelled bs s.end (rows_words rs) to → rows_section m bs s ≡ Ok (record { start = s.queues; rows = row_table rs; count = length rs; end = to })
   section_back s rs to some few lawful h =
       let a : ℕ = h.0 in
       let rest = h.2 in

@@ -1,6 +1,6 @@
 -- What a plan sheet says, by its words.
 use Rattle.std.specs.Prelude.{◌≡◌, ℕ, ◌≤◌, true, List, ◌∷◌, ◌++◌, map, length, replicate, Ok, codes, decimal}
-use Rattle.std.specs.List.{flat_map, AllByRecursion as All}
+use Rattle.std.specs.List.{flat_map, AllByRecursion}
 use Rattle.refusal.specs.Questions.{Told}
 use Rattle.model.specs.Model.{Meaning}
 use Rattle.words.specs.Spelling.{Spelled}
@@ -33,7 +33,7 @@ pub record Says (m : Meaning) (bs : List ℕ) (p : PlanSaid) : Type 0 where
   pub tops : UpTo (top_of m) 0 queues
   pub some : 1 ≤ length rows
   pub few : length rows ≤ 64
-  pub lawful : All (RowOf m) rows
+  pub lawful : AllByRecursion (RowOf m) rows
   pub words : Spelled bs 0 (start_words queues ++ rows_words rows) p.end
   pub start : p.start ≡ tabled 64 queues
   pub table : p.rows ≡ row_table rows

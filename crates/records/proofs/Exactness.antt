@@ -1,6 +1,6 @@
 -- A section is read exactly where it stands.
 use Rattle.std.proofs.Common.{◌≡◌, ℕ, zero, suc, ◌+◌, ◌-◌, ◌^◌, ◌<◌, ◌≤◌, false, List, [], ◌∷◌, ◌++◌, length, get_or, Ok, Err, decimal, Result, sym, refl, ap, ◌∙◌, subst, inl, inr, append_assoc, arith}
-use Rattle.std.specs.List.{AllByRecursion as All}
+use Rattle.std.specs.List.{AllByRecursion}
 use Rattle.std.proofs.ByRecursion.{All-get_or}
 use Rattle.refusal.specs.Questions.{Told, then, turns}
 use Rattle.refusal.proofs.Turning.{then_ok, then_parts, ok_same}
@@ -80,7 +80,7 @@ module _ {A : Type 0} (read : Reader A) (R : Saying A) (exact : Exact read R) wh
         ∙ records_read xs 0 (record { items = []; end = s.counted }) to s.records
 
 -- what each record says of its item holds of all items
-said_all : {A : Type 0} (R : Saying A) (P : A → Type 0) → ((before : List A) (at : ℕ) (x : A) (to : ℕ) → R before at x to → P x) → (before : List A) (at : ℕ) (xs : List A) (to : ℕ) → Said R before at xs to → All P xs
+said_all : {A : Type 0} (R : Saying A) (P : A → Type 0) → ((before : List A) (at : ℕ) (x : A) (to : ℕ) → R before at x to → P x) → (before : List A) (at : ℕ) (xs : List A) (to : ℕ) → Said R before at xs to → AllByRecursion P xs
 said_all R P each before at [] to s = tt
 said_all R P each before at (x ∷ xs) to s =
     (each before at x s.0 s.1, said_all R P each (before ++ (x ∷ [])) s.0 xs to s.2)

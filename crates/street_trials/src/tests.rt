@@ -4,7 +4,7 @@ mod counted;
 mod example;
 mod groups;
 mod heavy;
-mod model;
+mod questions;
 mod sheets;
 
 use std::process::Abort;

@@ -1,19 +1,19 @@
 -- The reader finds exactly the words that stand in the sheet.
 use Rattle.std.proofs.Common.{◌≡◌, ℕ, ◌+◌, ◌-◌, ◌<◌, cond, eqb, List, [], ◌∷◌, ◌++◌, length, take, drop, Ok, sym, refl, ap, ◌∙◌, ⊎_elim, arith, drop-drop}
 use lib.Seq.{take-append_seam, drop-append_seam}
-use Rattle.std.specs.List.{AllByRecursion as All}
+use Rattle.std.specs.List.{AllByRecursion}
 use Rattle.std.proofs.lemmas.Bool.{cond-true, cond-false, cases_Bool, ne_eqb, eqb-false}
 use Rattle.refusal.specs.Questions.{no, then}
 use Rattle.refusal.proofs.Turning.{then_parts}
 use Rattle.words.specs.Words.{separator, printable, skipped, ended, Part, part, cut, word_from, word_at}
 use Rattle.words.specs.Spelling.{Separates, Inner, Closed, Next}
 
-skipped_over : (gap text after : List ℕ) (p : ℕ) → All Separates gap → All Inner text → 0 < length text → skipped (gap ++ (text ++ after)) p ≡ p + length gap
+skipped_over : (gap text after : List ℕ) (p : ℕ) → AllByRecursion Separates gap → AllByRecursion Inner text → 0 < length text → skipped (gap ++ (text ++ after)) p ≡ p + length gap
 skipped_over [] [] after p a i s = absurd (omega arith)
 skipped_over [] (b ∷ text) after p a i s = cond-false _ _ _ i.0.0 ∙ omega arith
 skipped_over (g ∷ gap) text after p a i s = cond-true _ _ _ a.0 ∙ skipped_over gap text after (p + 1) a.1 i s ∙ omega arith
 
-ended_over : (text after : List ℕ) (p : ℕ) → All Inner text → Closed after → ended (text ++ after) p ≡ Ok (p + length text)
+ended_over : (text after : List ℕ) (p : ℕ) → AllByRecursion Inner text → Closed after → ended (text ++ after) p ≡ Ok (p + length text)
 ended_over [] [] p i c = ap Ok (omega arith)
 ended_over [] (b ∷ after) p i c = cond-true _ _ _ c ∙ ap Ok (omega arith)
 ended_over (b ∷ text) after p i c = cond-false _ _ _ i.0.0 ∙ cond-true _ _ _ i.0.1 ∙ ended_over text after (p + 1) i.1 c ∙ ap Ok (omega arith)
@@ -34,7 +34,7 @@ record Skips (l : List ℕ) (p : ℕ) : Type 0 where
   gap : List ℕ
   rest : List ℕ
   splits : l ≡ gap ++ rest
-  apart : All Separates gap
+  apart : AllByRecursion Separates gap
   first : skipped l p ≡ p + length gap
 
 skips : (l : List ℕ) (p : ℕ) → Skips l p
@@ -49,7 +49,7 @@ record Ends (l : List ℕ) (p e : ℕ) : Type 0 where
   text : List ℕ
   after : List ℕ
   splits : l ≡ text ++ after
-  inner : All Inner text
+  inner : AllByRecursion Inner text
   closed : Closed after
   ends : e ≡ p + length text
 

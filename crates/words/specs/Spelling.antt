@@ -1,6 +1,6 @@
 -- The words of a sheet as plain text: what stands where, with no word of how it is read.
 use Rattle.std.specs.Prelude.{◌≡◌, ℕ, ◌+◌, ◌<◌, true, false, List, [], ◌∷◌, ◌++◌, length, drop}
-use Rattle.std.specs.List.{AllByRecursion as All}
+use Rattle.std.specs.List.{AllByRecursion}
 use Rattle.words.specs.Words.{separator, printable}
 
 abbrev pub Separates : ℕ → Type 0
@@ -20,8 +20,8 @@ pub record Next (bs : List ℕ) (at : ℕ) (text : List ℕ) (to : ℕ) : Type 0
   pub gap : List ℕ
   pub after : List ℕ
   pub splits : drop at bs ≡ gap ++ (text ++ after)
-  pub apart : All Separates gap
-  pub inner : All Inner text
+  pub apart : AllByRecursion Separates gap
+  pub inner : AllByRecursion Inner text
   pub some : 0 < length text
   pub closed : Closed after
   pub ends : to ≡ at + length gap + length text

@@ -1,8 +1,8 @@
 // The example street before a controller that does not take every row and counts too much.
 use crate::tests::sheets::{corridor, two_modes};
 use crate::tests::{Shown, check_stands, state_of, try_steps};
+use example_street::box_street::BoxStreet;
 use example_street::controller::Controller;
-use example_street::street::BoxStreet;
 use std::test::Fail;
 
 // It does not take a row that begins with mode 2, and counts by the first mode that it was sent.

@@ -4,8 +4,7 @@ ghost use Rattle.model.specs.Model.{lamps};
 ghost use Rattle.street.specs.Standing.{seen_of, fresh_seen};
 
 use crate::controller::{Controller, counts_of};
-use model::{Model, Step};
-use model::Model as QueueModel;
+use model::{Model, Model as QueueModel, Step};
 use street::standing::Standing;
 use street::{Showing, Street};
 

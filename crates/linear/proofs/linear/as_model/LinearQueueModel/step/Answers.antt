@@ -4,7 +4,7 @@ use Rattle.linear.specs.Code.{lines}
 use Rattle.linear.specs.Order.{fits_exactly}
 use Rattle.linear.specs.Ranges.{sound, ready}
 use Rattle.linear.proofs.Stepping.{step_is}
-use Rattle.linear.proofs.linear.model.LinearQueueModel.step.Goals as goal
+use Rattle.linear.proofs.linear.as_model.LinearQueueModel.step.Goals as goal
 
 pub amounts-amounts-requires : goal.amounts-amounts-requires
 amounts-amounts-requires c =

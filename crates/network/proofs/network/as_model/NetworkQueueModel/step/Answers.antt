@@ -7,7 +7,7 @@ use Rattle.network.specs.Network.{verdict_at}
 use Rattle.network.specs.Order.{flows_exactly}
 use Rattle.network.specs.Ranges.{sound, ready}
 use Rattle.network.proofs.Stepping.{out_is, step_is}
-use Rattle.network.proofs.network.model.NetworkQueueModel.step.Goals as goal
+use Rattle.network.proofs.network.as_model.NetworkQueueModel.step.Goals as goal
 
 pub wishes-wishes-requires : goal.wishes-wishes-requires
 wishes-wishes-requires c = simp c.lit.ensures (lit_fits (roads c.args.self.now).phases c.args.row)
