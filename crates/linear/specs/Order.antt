@@ -12,7 +12,7 @@ use Rattle.model.specs.declared.Answer.{Answer}
 use Rattle.model.specs.declared.Answer.TheVariants.{Clear}
 use Rattle.model.specs.State.{Below}
 use Rattle.model.proofs.State.{capped_mono, none_above, below_none}
-use Rattle.linear.specs.Lines.{Lines, Sound, place, tops, part, line_sum, units, amount, amounts, mode, moved, cut_off, judged, Fits, ClearWhereFits, linear}
+use Rattle.linear.specs.Lines.{Lines, Sound, tops, part, line_sum, units, amount, amounts, mode, moved, cut_off, judged, Fits, ClearWhereFits, linear}
 use Rattle.linear.specs.Sizes.{length_tops, length_amounts, slice_index_tops, slice_index_amounts, inside_at, inside_past}
 
 none_cut : (o : Option ℕ) → cut_off o ≡ Clear → o ≡ None

@@ -7,7 +7,6 @@ use Rattle.records.specs.declared.fault.ModelFault.{ModelFault}
 use Rattle.records.specs.Sections.{ToldAs, Exactly}
 use Rattle.records.proofs.Exactness.{section_stands_as, section_reads_as, exactly}
 use Rattle.network.specs.Network.{Roads}
-use Rattle.network.specs.Code.{roads}
 use Rattle.limit_sheet.specs.Limits.{limits_section, limit_at, LimitSaid}
 use Rattle.limit_sheet.proofs.Exactness.{limit_exact}
 use Rattle.network_sheet.specs.declared.read.NetworkRead.{NetworkRead}

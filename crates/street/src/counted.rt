@@ -8,8 +8,7 @@ ghost use Rattle.street.specs.Views.{counted_of, groups_of, CountedStep};
 use crate::groups::{Group, Groups};
 use crate::standing::Standing;
 use crate::{Showing, Street};
-use model::{Model, Step};
-use model::Model as QueueModel;
+use model::{Model, Model as QueueModel, Step};
 
 #[derive(Drop)]
 pub struct CountedStreet<M> {

@@ -7,8 +7,7 @@ ghost use Rattle.street.specs.Views.{heavy_of, HeavyStep};
 use crate::standing::Standing;
 use crate::{Showing, Street};
 use model::states::loads_of;
-use model::{Model, Step};
-use model::Model as QueueModel;
+use model::{Model, Model as QueueModel, Step};
 
 #[derive(Drop)]
 pub struct HeavyStreet<M> {

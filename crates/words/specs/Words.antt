@@ -1,5 +1,5 @@
 -- The words of a sheet. A word is a run of bytes that are not separators, and each of its bytes has to be printable.
-use Rattle.std.specs.Prelude.{◌≡◌, ℕ, ◌+◌, ◌-◌, ◌≤◌, Bool, true, cond, not, ◌&&◌, ◌||◌, List, [], ◌∷◌, length, drop, Ok, Err, Result, ◌==◌, nat_le, nat_lt, slice_index, slice_range}
+use Rattle.std.specs.Prelude.{◌≡◌, ℕ, ◌+◌, ◌≤◌, Bool, true, cond, not, ◌&&◌, ◌||◌, List, [], ◌∷◌, length, drop, Ok, Err, Result, ◌==◌, nat_le, nat_lt, slice_index, slice_range}
 use Rattle.refusal.specs.Questions.{Told, no, then}
 use Rattle.words.specs.declared.fault.SheetFault.{SheetFault}
 use Rattle.words.specs.declared.word.Word.{Word}
