@@ -2,7 +2,7 @@
 use Rattle.std.proofs.Common.{◌≡◌, ℕ, pred, ◌≤◌, Bool, true, false, ◌&&◌, leb, List, length, set, Some, None, Ok, Err, Option, sym, refl, ap, ◌∙◌, subst, arith}
 use Rattle.std.proofs.lemmas.Bool.{leb-true}
 use Rattle.refusal.specs.declared.Refusal.{Refusal}
-use Rattle.refusal.specs.Questions.{refusal, Told, then}
+use Rattle.refusal.specs.Questions.{refusal, then}
 use Rattle.refusal.proofs.Turning.{then_parts, ok_same}
 use Rattle.model.specs.Model.{Meaning}
 use Rattle.model.specs.State.{lowest_above}

@@ -1,7 +1,6 @@
 -- Shelving on a fresh area asks what the check of a sheet asks.
-use Rattle.std.proofs.Common.{◌≡◌, ℕ, List, length, Ok, Err, Result, sym, refl, ap, ◌∙◌, subst, arith}
+use Rattle.std.proofs.Common.{◌≡◌, ℕ, List, Ok, Err, Result, refl, ap, ◌∙◌, subst, arith}
 use Rattle.refusal.specs.Questions.{Told, then, told_by}
-use Rattle.refusal.proofs.Turning.{then_parts}
 use Rattle.model.specs.Model.{Meaning}
 use Rattle.street.specs.Street.{Seen}
 use Rattle.plan.specs.declared.limits.Limit.{Limit}
