@@ -10,6 +10,6 @@ returns g c =
     let made = c.new-area.ensures in
     let same = c.new-street.ensures.model in
     let seen = seen_of (g.M.Model.meaning street.model) street.standing in
-    shelved_new (g.M.Model.meaning c.args.model) _ (vec_items c.args.limits) _ c.args.sheet.now _ 1 seen c.shelve.result
+    shelved_new (g.M.Model.meaning c.args.model) _ (vec_items c.args.limits) _ c.args.sheet.now _ 1 seen c.under_first.result
     (ap (λ t. g.M.Model.meaning t.model) made.street ∙ same) made.limits
-    (made.fresh ∙ (λ i. record { number = 1; book = fresh_book (same i); street = seen })) c.shelve.ensures.does.answer
+    (made.fresh ∙ (λ i. record { number = 1; book = fresh_book (same i); street = seen })) c.under_first.ensures.does.answer
