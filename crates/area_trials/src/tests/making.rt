@@ -41,7 +41,7 @@ fn groups_of(heap: Global, given: &[Given]) -> Result<Vec<Group>, AllocError> {
 }
 
 // Two junctions and three links; the one limit has this bound on links 1 and 3 together.
-fn corridor(heap: Global, bound: u32) -> Result<NetworkRead, Fail> {
+pub(crate) fn corridor(heap: Global, bound: u32) -> Result<NetworkRead, Fail> {
     let sheet = format!(in heap;
         "signals 2 2 2 links 3 a 0 1 200 60 20 1 b 1 2 100 50 0 1 c 0 1 200 40 10 2 turns 2 1 2 500 1000 3 2 250 1000 limits 1 {bound} 2 1 1 3 1"
     )?;

@@ -1,10 +1,12 @@
 // Calls of an area that is off line: what the shelf takes and refuses, and which plans can be taken.
-use crate::tests::making::{counted_area, heavy_area};
+use crate::tests::making::{corridor, counted_area, heavy_area};
 use crate::tests::spell::told_take;
 use crate::tests::tables::{PLAN, WIDE};
 use crate::tests::{Stands, Told, check_stands, told_rows};
 use area::area::Area;
+use area::area::first::shelve_first;
 use lives::state::State;
+use network_sheet::read::NetworkRead;
 use std::process::Abort;
 use std::test::Fail;
 use street::Street;
@@ -90,5 +92,24 @@ fn try_above<S: Street + Drop>(rt: &impl Abort, mut area: Area<S>, place: usize)
 fn queue_above(rt: HostRuntime) -> Result<(), Fail> {
     try_above(&rt, heavy_area(rt.alloc(), 399, &[40, 26, 11])?, 2);
     try_above(&rt, heavy_area(rt.alloc(), 399, &[0, 0, 11])?, 3);
+    Ok(())
+}
+
+// The bound of the corridor, and what its first shelf number tells: with 49 the start breaks the limit.
+const FIRST: [(u32, Told); 2] = [(50, (0, 2, 0)), (49, (13, 0, 1))];
+
+#[test]
+fn first_shelf(rt: HostRuntime) -> Result<(), Fail> {
+    for (bound, told) in &FIRST {
+        let NetworkRead {
+            network,
+            limits,
+            end: _,
+        } = corridor(rt.alloc(), *bound)?;
+        assert_eq!(rt;
+            told_rows(shelve_first(network, limits, PLAN.as_bytes())),
+            *told
+        );
+    }
     Ok(())
 }
