@@ -59,7 +59,7 @@ After prints (Err r) text = text ≡ refused_line r
 -- the refusal of a sheet, unless there was no memory
 abbrev pub Faulted : {V E : Type 0} → (V → List ℕ) → ModelFault → Result V E → Type 0
 Faulted bytes (Sheet f) r = IfOk r (λ s. bytes s ≡ refused_line (sheet_refusal f))
-Faulted bytes Memory r = is_err r ≡ true
+Faulted bytes (Memory e) r = is_err r ≡ true
 
 -- a fresh area over a fresh street
 abbrev pub fresh_area : Meaning → DaySaid → Area

@@ -79,7 +79,7 @@ fn fault_line(heap: Global, why: ModelFault) -> Result<String, AllocError>
             let done = Done::Refused(fault.refusal());
             format!(in heap; "{done}\n")
         }
-        ModelFault::Memory => Err(AllocError),
+        ModelFault::Memory(error) => Err(error),
     }
 }
 

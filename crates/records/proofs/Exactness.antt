@@ -102,4 +102,4 @@ exactly view Says t stands read (Ok v) is =
     record { says = λ c e. stands c (sym is ∙ ap Ok e); reads = λ c s. inl (ok_same (is ∙ read c s)) }
 exactly view Says t stands read (Err (Sheet e)) is =
     record { says = λ c z. absurd z; reads = λ c s. absurd (let z : ◌≡◌ {A = ℕ} 0 1 = cc (is, read c s) in omega arith) }
-exactly view Says t stands read (Err Memory) is = record { says = λ c z. absurd z; reads = λ c s. inr refl }
+exactly view Says t stands read (Err (Memory e)) is = record { says = λ c z. absurd z; reads = λ c s. inr refl }

@@ -1,5 +1,5 @@
 -- Sections of a sheet: a section word, a count in its range, and as many records, each read beside those before it.
-use Rattle.std.specs.Prelude.{◌≡◌, ℕ, ◌≤◌, ◌⊎◌, List, [], ◌∷◌, ◌++◌, length, Ok, Err, vec_items, decimal, Result}
+use Rattle.std.specs.Prelude.{◌≡◌, ℕ, ◌≤◌, ◌⊎◌, List, [], ◌∷◌, ◌++◌, length, Ok, Err, vec_items, decimal, Result, alloc_error}
 use Rattle.refusal.specs.Questions.{Told, then, turns}
 use Rattle.words.specs.Faults.{sheet_refusal}
 use Rattle.words.specs.Numbers.{number_at, section_at}
@@ -35,7 +35,7 @@ section_of read bs at word low high =
 abbrev pub ToldAs : {V C : Type 0} → (V → C) → Result V ModelFault → Told C → Type 0
 ToldAs view (Ok v) t = Ok (view v) ≡ t
 ToldAs view (Err (Sheet e)) t = Err (sheet_refusal e) ≡ t
-ToldAs view (Err Memory) t = Unit {0}
+ToldAs view (Err (Memory e)) t = Unit {0}
 
 abbrev pub items_of : {A : Type 0} → Listed A → Items A
 items_of v = record { items = vec_items v.items; end = v.end }
@@ -51,7 +51,7 @@ ReadAs view (Err e) c = ⊥
 -- what is read is what the sheet says; and what the sheet says is read, unless there is no memory
 pub record Exactly {V C : Type 0} (view : V → C) (Says : C → Type 0) (r : Result V ModelFault) : Type 0 where
   pub says : (c : C) → ReadAs view r c → Says c
-  pub reads : (c : C) → Says c → ReadAs view r c ⊎ (r ≡ Err Memory)
+  pub reads : (c : C) → Says c → ReadAs view r c ⊎ (r ≡ Err (Memory alloc_error))
 
 -- what it means for a record to say something: beside those before it, from a place on, up to where it ends
 abbrev pub Saying : Type 0 → Type 1

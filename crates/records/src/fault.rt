@@ -1,14 +1,14 @@
 // Why no model is made of a sheet: the sheet's own refusal, unchanged, or want of memory.
-ghost use Rattle.std.specs.Prelude.{◌≡◌};
+ghost use Rattle.std.specs.Prelude.{◌≡◌, alloc_error};
 ghost use Rattle.records.specs.declared.fault.ModelFault.TheVariants.{Sheet, Memory};
 
-use std::alloc::AllocFailed;
+use std::alloc::{AllocError, AllocFailed};
 use words::fault::SheetFault;
 
 #[derive(Clone, Copy)]
 pub enum ModelFault {
     Sheet(SheetFault),
-    Memory,
+    Memory(AllocError),
 }
 
 impl From<SheetFault> for ModelFault {
@@ -20,9 +20,9 @@ impl From<SheetFault> for ModelFault {
 }
 
 impl<T: Drop> From<AllocFailed<T>> for ModelFault {
-    ghost from_gives = { λ _ r. r ≡ Memory };
+    ghost from_gives = { λ _ r. r ≡ Memory alloc_error };
 
-    fn from(_e: AllocFailed<T>) -> ModelFault {
-        ModelFault::Memory
+    fn from(e: AllocFailed<T>) -> ModelFault {
+        ModelFault::Memory(AllocError::from(e))
     }
 }

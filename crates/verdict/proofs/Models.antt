@@ -1,6 +1,6 @@
 -- The verdict on what is read of a model sheet, once for every kind of model, and what tells the kinds apart.
 use Rattle.std.proofs.Common.{◌≡◌, ℕ, true, false, List, drop, is_ok, IfOk, Ok, Err, codes, Result, sym, refl, ap, ◌∙◌, subst, ⊎_elim, arith}
-use Rattle.std.proofs.lemmas.Result.{IfOk-from_err}
+use Rattle.std.specs.declared.alloc.AllocError.{AllocError}
 use Rattle.refusal.specs.Questions.{Told, then}
 use Rattle.refusal.proofs.Turning.{then_ok}
 use Rattle.words.specs.Faults.{sheet_refusal}
@@ -50,14 +50,14 @@ module _ {C : Type 0} {Says : C → Type 0} {Said : Meaning → List Limit → �
             (x.reads (K.content m ls to s) (K.says m ls to s))
 
     -- where none was read
-    pub judged_fault : {E : Type 0} (why : ModelFault) (r : Result Verdict E) → Faulted why r → ToldAs view (Err why) t → Exactly view Says (Err why) → IfOk r (λ w. w ≡ verdict_of (then t next)) × IfOk r (Right Said bs)
+    pub judged_fault : (why : ModelFault) (r : Result Verdict AllocError) → Faulted why r → ToldAs view (Err why) t → Exactly view Says (Err why) → IfOk r (λ w. w ≡ verdict_of (then t next)) × IfOk r (Right Said bs)
     judged_fault (Sheet f) r e is x =
         subst (λ q. IfOk q (λ w. w ≡ verdict_of (then t next)) × IfOk q (Right Said bs)) (sym e)
         (ap (λ u. verdict_of (then u next)) is, right_refused Said bs none (sheet_refusal f))
       where
         none : (m : Meaning) (ls : List Limit) (to : ℕ) → Said m ls to → ⊥
         none m ls to s = ⊎_elim (λ z. z) (λ c. let z : ◌≡◌ {A = ℕ} 0 1 = cc in omega arith) (x.reads (K.content m ls to s) (K.says m ls to s))
-    judged_fault Memory r e is x = (IfOk-from_err r (λ w. w ≡ verdict_of (then t next)) e, IfOk-from_err r (Right Said bs) e)
+    judged_fault (Memory f) r e is x = subst (λ q. IfOk q (λ w. w ≡ verdict_of (then t next)) × IfOk q (Right Said bs)) (sym e) (tt, tt)
 
 -- a network sheet does not begin as a linear one
 pub network_begins : (bs : List ℕ) (m : Meaning) (ls : List Limit) (to : ℕ) → NetworkSaid bs m ls to → begins_linear bs ≡ false

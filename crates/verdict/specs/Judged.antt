@@ -1,5 +1,6 @@
 -- The verdict on an input.
-use Rattle.std.specs.Prelude.{◌≡◌, ℕ, Bool, true, cond, ◌⊎◌, List, drop, is_ok, is_err, Ok, Err, codes, Result}
+use Rattle.std.specs.Prelude.{◌≡◌, ℕ, Bool, cond, ◌⊎◌, List, drop, is_ok, Ok, Err, codes, Result}
+use Rattle.std.specs.declared.alloc.AllocError.{AllocError}
 use Rattle.refusal.specs.Questions.{Told, then}
 use Rattle.words.specs.Faults.{sheet_refusal}
 use Rattle.words.specs.Numbers.{section_at}
@@ -24,10 +25,10 @@ abbrev pub verdict_of : Told ℕ → Verdict
 verdict_of (Ok rows) = Shelved rows
 verdict_of (Err r) = Refused r
 
--- the verdict where no model was read: the sheet's refusal, unless there was no memory
-abbrev pub Faulted : {E : Type 0} → ModelFault → Result Verdict E → Type 0
+-- the verdict where no model was read: the sheet's refusal, or the error that came
+abbrev pub Faulted : ModelFault → Result Verdict AllocError → Type 0
 Faulted (Sheet f) r = r ≡ Ok (Refused (sheet_refusal f))
-Faulted Memory r = is_err r ≡ true
+Faulted (Memory e) r = r ≡ Err e
 
 -- the questions on a model sheet, then those on the plan sheet after it, then those on the plan
 abbrev pub network_verdict : List ℕ → Verdict

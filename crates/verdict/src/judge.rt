@@ -34,13 +34,13 @@ fn judge_plan<M: Model>(model: &M, limits: &[Limit], sheet: &[u8]) -> Verdict
     }
 }
 
-// The verdict where no model was read: its sheet's refusal. An error is want of memory.
+// The verdict where no model was read: its sheet's refusal, or the error that came.
 fn judge_fault(why: ModelFault) -> Result<Verdict, AllocError>
     ensures { Faulted why result }
 {
     match why {
         ModelFault::Sheet(fault) => Ok(Verdict::Refused(fault.refusal())),
-        ModelFault::Memory => Err(AllocError),
+        ModelFault::Memory(error) => Err(error),
     }
 }
 
