@@ -3,10 +3,10 @@ use Rattle.std.specs.Prelude.{ℕ, ◌+◌, cond, List, length, drop, Some, None
 use Rattle.std.specs.Str.{bytes_eq}
 use Rattle.refusal.specs.Questions.{Told, no, then}
 use Rattle.model.specs.Model.{Meaning}
-use Rattle.words.specs.declared.number.Reading.{Reading}
+use Rattle.words.specs.declared.reading.Reading.{Reading}
 use Rattle.words.specs.Words.{Part, number, name, word_at}
 use Rattle.words.specs.Numbers.{number_at}
-use Rattle.records.specs.declared.Recorded.{Recorded}
+use Rattle.words.specs.declared.recorded.Recorded.{Recorded}
 use Rattle.records.specs.Sections.{Reader}
 use Rattle.plan_sheet.specs.Plans.{plan_sheet}
 use Rattle.day.specs.declared.call.CallWord.{CallWord}
@@ -37,7 +37,7 @@ abbrev pub call_word_at : List ℕ → ℕ → Told (Recorded CallWord)
 call_word_at bs at = then (word_at bs at) as_call_word
 
 -- the number of a shelf: 0 to 255
-abbrev pub shelf_at : List ℕ → ℕ → Told Reading
+abbrev pub shelf_at : List ℕ → ℕ → Told (Reading ℕ)
 shelf_at bs at = number_at bs at 0 255
 
 -- a shelve: its number, and a plan sheet of its own from there on

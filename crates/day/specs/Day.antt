@@ -2,7 +2,7 @@
 use Rattle.std.specs.Prelude.{ℕ, List, Ok, vec_items, codes}
 use Rattle.refusal.specs.Questions.{Told, then}
 use Rattle.model.specs.Model.{Meaning}
-use Rattle.words.specs.declared.number.Reading.{Reading}
+use Rattle.words.specs.declared.reading.Reading.{Reading}
 use Rattle.words.specs.Words.{short_sheet}
 use Rattle.words.specs.Numbers.{number_at, section_at}
 use Rattle.records.specs.Sections.{Items, section_of}
@@ -14,7 +14,7 @@ use Rattle.day.specs.Tables.{table_at, group_at}
 use Rattle.day.specs.Calls.{call_at}
 
 -- the area's number, and no records
-abbrev pub area_section : List ℕ → ℕ → Told Reading
+abbrev pub area_section : List ℕ → ℕ → Told (Reading ℕ)
 area_section bs at = then (section_at bs at (codes "area")) (λ a. number_at bs a 0 999999999)
 
 -- exactly the count of places, and a queue for each

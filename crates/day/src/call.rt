@@ -7,9 +7,11 @@ ghost use Rattle.day.specs.Calls.{word_of, call_word_at, shelf_at, shelve_at, ca
 use crate::rest::rest_of;
 use model::Model;
 use plan_sheet::read::read_plan;
-use records::{Record, Recorded};
+use records::Record;
 use words::fault::SheetFault;
-use words::number::{Reading, number};
+use words::number::number;
+use words::reading::Reading;
+use words::recorded::Recorded;
 use words::word::{Word, next_word};
 
 // The words that begin a call.
@@ -77,7 +79,7 @@ fn call_word(bytes: &[u8], at: usize) -> Result<Recorded<CallWord>, SheetFault>
 }
 
 // The number of a shelf, from 0 to 255.
-fn shelf_at(bytes: &[u8], at: usize) -> Result<Reading, SheetFault>
+fn shelf_at(bytes: &[u8], at: usize) -> Result<Reading<u32>, SheetFault>
     ensures { told result ≡ shelf_at bytes.now at }
 {
     number(bytes, at, 0, 255)

@@ -76,7 +76,7 @@ fn fault_line(heap: Global, why: ModelFault) -> Result<String, AllocError>
 {
     match why {
         ModelFault::Sheet(fault) => {
-            let done = Done::Refused(fault.refusal());
+            let done = Done::Refused(fault.into());
             format!(in heap; "{done}\n")
         }
         ModelFault::Memory(error) => Err(error),

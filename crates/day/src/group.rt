@@ -3,10 +3,11 @@ ghost use Rattle.day.specs.Tables.{group_at};
 
 use crate::table::read_table;
 use model::Model;
-use records::{Record, Recorded};
+use records::Record;
 use street::groups::Group;
 use words::fault::SheetFault;
 use words::number::number;
+use words::recorded::Recorded;
 
 // A group: its dark mark, and an arrival for each place.
 #[derive(Clone, Copy)]

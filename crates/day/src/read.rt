@@ -13,7 +13,8 @@ use records::{Listed, read_section};
 use std::alloc::Global;
 use street::groups::Group;
 use words::fault::SheetFault;
-use words::number::{Reading, number, section};
+use words::number::{number, section};
+use words::reading::Reading;
 use words::word::short_enough;
 
 // The area's number, the queues and groups of its street, and the calls.
@@ -26,7 +27,7 @@ pub struct Day {
 }
 
 // The area's number: a section with no records.
-fn area_section(bytes: &[u8], at: usize) -> Result<Reading, SheetFault>
+fn area_section(bytes: &[u8], at: usize) -> Result<Reading<u32>, SheetFault>
     ensures { told result ≡ area_section bytes.now at }
 {
     let named = section(bytes, at, b"area")?;

@@ -9,7 +9,7 @@ use Rattle.words.specs.Tables.{written}
 use Rattle.words.proofs.Due.{due, found}
 use Rattle.words.proofs.Filling.{spelled_join, spelled_split}
 use Rattle.words.proofs.Written.{take_tabled}
-use Rattle.records.specs.declared.Recorded.{Recorded}
+use Rattle.words.specs.declared.recorded.Recorded.{Recorded}
 use Rattle.records.proofs.Exactness.{Exact}
 use Rattle.plan.specs.declared.limits.Term.{Term}
 use Rattle.plan.specs.declared.limits.Limit.{Limit}

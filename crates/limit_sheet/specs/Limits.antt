@@ -5,7 +5,7 @@ use Rattle.refusal.specs.Questions.{Told, then, no, turns}
 use Rattle.words.specs.Numbers.{number_at}
 use Rattle.words.specs.Spelling.{Spelled}
 use Rattle.words.specs.Tables.{written}
-use Rattle.records.specs.declared.Recorded.{Recorded}
+use Rattle.words.specs.declared.recorded.Recorded.{Recorded}
 use Rattle.records.specs.Sections.{Reader, Items, section_of}
 use Rattle.plan.specs.declared.limits.Term.{Term}
 use Rattle.plan.specs.declared.limits.Limit.{Limit}

@@ -8,10 +8,11 @@ ghost use Rattle.records.specs.Sections.{ListedAs};
 
 use plan::limits::{Limit, Term};
 use records::fault::ModelFault;
-use records::{Listed, Record, Recorded, read_section};
+use records::{Listed, Record, read_section};
 use std::alloc::Global;
 use words::fault::SheetFault;
 use words::number::number;
+use words::recorded::Recorded;
 
 // Is this place one of the terms'?
 fn names(terms: &[Term], place: usize) -> bool

@@ -1,7 +1,7 @@
 -- The modes, a place and an entry are read exactly where their words stand.
 use Rattle.std.proofs.Common.{◌≡◌, ℕ, ◌-◌, List, length, Ok, codes, decimal, refl, ap, ◌∙◌, subst, arith}
 use Rattle.refusal.proofs.Turning.{then_parts, then_ok, ok_same}
-use Rattle.words.specs.declared.number.Reading.{Reading}
+use Rattle.words.specs.declared.reading.Reading.{Reading}
 use Rattle.words.specs.Numbers.{number_at, section_at}
 use Rattle.words.proofs.Due.{due, found, number_stands, number_read, section_stands, section_read}
 use Rattle.records.proofs.Exactness.{Exact}
@@ -9,7 +9,7 @@ use Rattle.linear_sheet.specs.Places.{place_at, entry_at, PlaceSaid, EntrySaid}
 use Rattle.linear_sheet.specs.Linear.{modes_section}
 use Rattle.linear_sheet.specs.Says.{ModesSaid}
 
-pub modes_stand : (bs : List ℕ) (at : ℕ) (n : Reading) → modes_section bs at ≡ Ok n → ModesSaid bs at n.value n.end
+pub modes_stand : (bs : List ℕ) (at : ℕ) (n : Reading ℕ) → modes_section bs at ≡ Ok n → ModesSaid bs at n.value n.end
 modes_stand bs at n h =
     let p = then_parts (section_at bs at (codes "modes")) (λ a. number_at bs a 1 8) n h in
     let c = number_stands bs p.0 1 8 n p.2 in

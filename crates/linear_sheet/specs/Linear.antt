@@ -1,7 +1,7 @@
 -- A whole linear model sheet: the sections `modes`, `places`, `entries` and `limits`, one after the other.
 use Rattle.std.specs.Prelude.{ℕ, List, length, Ok, vec_items, codes}
 use Rattle.refusal.specs.Questions.{Told, then}
-use Rattle.words.specs.declared.number.Reading.{Reading}
+use Rattle.words.specs.declared.reading.Reading.{Reading}
 use Rattle.words.specs.Words.{short_sheet}
 use Rattle.words.specs.Numbers.{number_at, section_at}
 use Rattle.records.specs.Sections.{Items, section_of}
@@ -14,7 +14,7 @@ use Rattle.linear_sheet.specs.declared.read.LinearRead.{LinearRead}
 use Rattle.linear_sheet.specs.Places.{place_at, entry_at, entry_count}
 
 -- 1 to 8 modes, and no records
-abbrev pub modes_section : List ℕ → ℕ → Told Reading
+abbrev pub modes_section : List ℕ → ℕ → Told (Reading ℕ)
 modes_section bs at = then (section_at bs at (codes "modes")) (λ a. number_at bs a 1 8)
 
 -- 1 to 16 places

@@ -2,9 +2,10 @@
 ghost use Rattle.linear_sheet.specs.Places.{place_at, entry_at};
 
 use linear::place::Place;
-use records::{Record, Recorded};
+use records::Record;
 use words::fault::SheetFault;
 use words::number::number;
+use words::recorded::Recorded;
 
 // A place: its top and its load.
 #[derive(Clone, Copy)]

@@ -14,7 +14,8 @@ use records::fault::ModelFault;
 use records::{Listed, read_section};
 use std::alloc::Global;
 use words::fault::SheetFault;
-use words::number::{Reading, number, section};
+use words::number::{number, section};
+use words::reading::Reading;
 use words::word::short_enough;
 
 // A linear model and the limits of its sheet, and where the last word ended.
@@ -26,7 +27,7 @@ pub struct LinearRead {
 }
 
 // 1 to 8 modes: a section with no records.
-fn modes_section(bytes: &[u8], at: usize) -> Result<Reading, SheetFault>
+fn modes_section(bytes: &[u8], at: usize) -> Result<Reading<u32>, SheetFault>
     ensures is { told result ≡ modes_section bytes.now at }
     ensures within { IfOk result (λ n. (1 ≤ n.value) × (n.value ≤ 8)) }
 {

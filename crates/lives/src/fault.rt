@@ -43,7 +43,7 @@ impl AreaFault {
         let (number, a) = match self {
             AreaFault::NoShelf => (11, 0),
             AreaFault::NotEmpty(number) => (12, number),
-            AreaFault::Plan(fault) => return fault.refusal(),
+            AreaFault::Plan(fault) => return fault.into(),
             AreaFault::OnLine => (17, 0),
             AreaFault::NoPlan => (18, 0),
             AreaFault::QueueAbove(place) => (19, place),

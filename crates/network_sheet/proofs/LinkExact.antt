@@ -4,7 +4,7 @@ use Rattle.std.proofs.lemmas.Bool.{cond-true, cond-false, ltb-true, lt-ltb, eqb-
 use Rattle.refusal.proofs.Turning.{then_parts, then_ok, ok_same}
 use Rattle.words.specs.Numbers.{name_at}
 use Rattle.words.proofs.Due.{due, found, name_stands, name_read}
-use Rattle.records.specs.declared.Recorded.{Recorded}
+use Rattle.words.specs.declared.recorded.Recorded.{Recorded}
 use Rattle.records.proofs.Exactness.{Exact}
 use Rattle.network.specs.declared.links.Link.{Link}
 use Rattle.network_sheet.specs.Links.{signal_at, SignalSaid, phases_of, fits_ends, link_at, LinkSaid}
@@ -43,7 +43,7 @@ module _ (bs phases : List ℕ) (signals : ℕ) (few : signals ≤ 32) where
       let flow = due bs top.0.end 0 100000 _ r top.2 in
       let load = due bs flow.0.end 0 top.0.value _ r flow.2 in
       let mask = due bs load.0.end 0 255 _ r load.2 in
-      let q : Recorded Link = record { item = record { name = n.0.letters; tail = tail.0.value; head = head.0.value; top = top.0.value; flow = flow.0.value; load = load.0.value; mask = mask.0.value }; end = mask.0.end } in
+      let q : Recorded Link = record { item = record { name = n.0.value; tail = tail.0.value; head = head.0.value; top = top.0.value; flow = flow.0.value; load = load.0.value; mask = mask.0.value }; end = mask.0.end } in
       let w = ends_fit phases n.0.place q r mask.2 in
       subst (λ u. LinkSaid bs phases signals before at u.item u.end) w.same (record {
         name = ns.text;

@@ -4,7 +4,7 @@ use Rattle.std.specs.List.{AllByRecursion}
 use Rattle.std.proofs.lemmas.Bool.{cond-true, cond-false, cases_Bool, both_ways, and_parts, and_from, or_parts, or_from, eq-eqb, eqb-true, leb-true, le-leb}
 use Rattle.refusal.proofs.Turning.{ok_same}
 use Rattle.words.proofs.Due.{due, found}
-use Rattle.records.specs.declared.Recorded.{Recorded}
+use Rattle.words.specs.declared.recorded.Recorded.{Recorded}
 use Rattle.records.proofs.Exactness.{Exact}
 use Rattle.model.specs.State.{every}
 use Rattle.model.proofs.State.{every_at, every_from}

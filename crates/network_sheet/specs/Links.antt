@@ -4,7 +4,7 @@ use Rattle.refusal.specs.Questions.{Told, no, then}
 use Rattle.words.specs.Numbers.{number_at, name_at}
 use Rattle.words.specs.Spelling.{Spelled}
 use Rattle.words.specs.Tables.{tabled}
-use Rattle.records.specs.declared.Recorded.{Recorded}
+use Rattle.words.specs.declared.recorded.Recorded.{Recorded}
 use Rattle.records.specs.Sections.{Reader}
 use Rattle.network.specs.declared.links.Link.{Link}
 
@@ -32,7 +32,7 @@ link_at bs phases signals at before =
     then (number_at bs top.end 0 100000) (λ flow.
     then (number_at bs flow.end 0 top.value) (λ load.
     then (number_at bs load.end 0 255) (λ mask.
-    fits_ends phases n.place (record { item = record { name = n.letters; tail = tail.value; head = head.value; top = top.value; flow = flow.value; load = load.value; mask = mask.value }; end = mask.end }))))))))
+    fits_ends phases n.place (record { item = record { name = n.value; tail = tail.value; head = head.value; top = top.value; flow = flow.value; load = load.value; mask = mask.value }; end = mask.end }))))))))
 
 -- the word from place `at` to `to` is the number of a junction's phases
 pub record SignalSaid (bs : List ℕ) (before : List ℕ) (at : ℕ) (phases : ℕ) (to : ℕ) : Type 0 where

@@ -4,7 +4,7 @@ use Rattle.std.specs.List.{AllByRecursion}
 use Rattle.refusal.specs.Questions.{Told, no, then}
 use Rattle.words.specs.Numbers.{number_at}
 use Rattle.words.specs.Spelling.{Spelled}
-use Rattle.records.specs.declared.Recorded.{Recorded}
+use Rattle.words.specs.declared.recorded.Recorded.{Recorded}
 use Rattle.records.specs.Sections.{Reader}
 use Rattle.model.specs.State.{every}
 use Rattle.network.specs.declared.links.Link.{Link}

@@ -3,10 +3,11 @@ ghost use Rattle.std.specs.Prelude.{◌≡◌, ◌-◌, ◌^◌, nat_lt, slice_i
 ghost use Rattle.network_sheet.specs.Links.{signal_at, link_at};
 
 use network::links::Link;
-use records::{Record, Recorded};
+use records::Record;
 use words::fault::SheetFault;
 use words::name::name;
 use words::number::number;
+use words::recorded::Recorded;
 
 // A junction: its phases.
 #[derive(Clone, Copy)]
@@ -61,7 +62,7 @@ impl<'a> Record for LinkRecord<'a> {
         let flow = number(bytes, top.end, 0, 100_000)?;
         let load = number(bytes, flow.end, 0, top.value)?;
         let mask = number(bytes, load.end, 0, 255)?;
-        let letters = name.letters;
+        let letters = name.value;
         let link = Link {
             name: letters,
             tail: tail.value as usize,

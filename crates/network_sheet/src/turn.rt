@@ -4,9 +4,10 @@ ghost use Rattle.network.specs.Network.{joins};
 ghost use Rattle.network_sheet.specs.Turns.{numbered, given_in, share_from, supply_into, goes_on, within_supply, has_room, turn_at};
 
 use network::links::{Link, Turn};
-use records::{Record, Recorded};
+use records::Record;
 use words::fault::SheetFault;
 use words::number::number;
+use words::recorded::Recorded;
 
 // The junction where a link begins, the one where it ends, and its mask.
 // Links are counted from 1; out of range each is 0.

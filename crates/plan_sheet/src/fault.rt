@@ -31,12 +31,13 @@ impl From<CheckFault> for PlanFault {
     }
 }
 
-impl PlanFault {
-    pub fn refusal(self) -> Refusal
-        ensures { result ≡ plan_refusal self }
-    {
-        match self {
-            PlanFault::Sheet(f) => f.refusal(),
+// The refusal of the sheet or of the check, unchanged.
+impl From<PlanFault> for Refusal {
+    ghost from_gives = { λ e r. r ≡ plan_refusal e };
+
+    fn from(fault: PlanFault) -> Refusal {
+        match fault {
+            PlanFault::Sheet(f) => f.into(),
             PlanFault::Check(f) => f.refusal(),
         }
     }

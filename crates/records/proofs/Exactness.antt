@@ -8,7 +8,7 @@ use Rattle.words.specs.Words.{numeral}
 use Rattle.words.specs.Numbers.{number_at, section_at}
 use Rattle.words.specs.Spelling.{Next}
 use Rattle.words.proofs.Due.{number_stands, number_read, section_stands, section_read}
-use Rattle.records.specs.declared.Recorded.{Recorded}
+use Rattle.words.specs.declared.recorded.Recorded.{Recorded}
 use Rattle.records.specs.declared.fault.ModelFault.{ModelFault}
 use Rattle.records.specs.declared.fault.ModelFault.TheVariants.{Sheet, Memory}
 use Rattle.records.specs.Sections.{Reader, Items, next_record, records_at, section_of, Saying, Said, Section, ToldAs, Exactly}

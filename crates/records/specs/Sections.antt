@@ -4,7 +4,7 @@ use Rattle.refusal.specs.Questions.{Told, then, turns}
 use Rattle.words.specs.Faults.{sheet_refusal}
 use Rattle.words.specs.Numbers.{number_at, section_at}
 use Rattle.words.specs.Spelling.{Next}
-use Rattle.records.specs.declared.Recorded.{Recorded}
+use Rattle.words.specs.declared.recorded.Recorded.{Recorded}
 use Rattle.records.specs.declared.Listed.{Listed}
 use Rattle.records.specs.declared.fault.ModelFault.{ModelFault}
 use Rattle.records.specs.declared.fault.ModelFault.TheVariants.{Sheet, Memory}

@@ -4,23 +4,17 @@
 ghost use Rattle.std.specs.Prelude.{◌≡◌, ℕ, List};
 ghost use Rattle.refusal.specs.Questions.{Told};
 ghost use Rattle.words.specs.Faults.{told};
-ghost use Rattle.records.specs.declared.Recorded.{Recorded};
+ghost use Rattle.words.specs.declared.recorded.Recorded.{Recorded};
 ghost use Rattle.records.specs.Sections.{records_at, section_of, ListedAs};
 
 use std::alloc::Global;
 use words::fault::SheetFault;
 use words::number::{number, section};
+use words::recorded::Recorded;
 
 pub mod fault;
 
 use fault::ModelFault;
-
-// What a record says, and where its last word ended.
-#[derive(Clone, Copy)]
-pub struct Recorded<T> {
-    pub item: T,
-    pub end: usize,
-}
 
 // What the records of a section say, and where the last of them ended.
 #[derive(Drop)]

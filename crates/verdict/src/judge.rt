@@ -30,7 +30,7 @@ fn judge_plan<M: Model>(model: &M, limits: &[Limit], sheet: &[u8]) -> Verdict
 {
     match check_sheet(model, limits, sheet) {
         Ok(rows) => Verdict::Shelved(rows),
-        Err(fault) => Verdict::Refused(fault.refusal()),
+        Err(fault) => Verdict::Refused(fault.into()),
     }
 }
 
@@ -39,7 +39,7 @@ fn judge_fault(why: ModelFault) -> Result<Verdict, AllocError>
     ensures { Faulted why result }
 {
     match why {
-        ModelFault::Sheet(fault) => Ok(Verdict::Refused(fault.refusal())),
+        ModelFault::Sheet(fault) => Ok(Verdict::Refused(fault.into())),
         ModelFault::Memory(error) => Err(error),
     }
 }

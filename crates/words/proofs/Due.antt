@@ -8,8 +8,7 @@ use Rattle.std.proofs.lemmas.Str.Parse.{digits_value_short}
 use Rattle.std.proofs.lemmas.Bool.{cond-true, cond-false, cases_Bool, and_parts, and_from, or_left, or_right, or_parts, or_from, or_cases, not_from_false, not-true, leb-true, le-leb, ltb-false, le-ltb, eqb-false, ne_eqb, cases_lt}
 use Rattle.refusal.specs.Questions.{Told, no, then}
 use Rattle.refusal.proofs.Turning.{then_parts, ok_same, then_ok}
-use Rattle.words.specs.declared.name.Named.{Named}
-use Rattle.words.specs.declared.number.Reading.{Reading}
+use Rattle.words.specs.declared.reading.Reading.{Reading}
 use Rattle.words.specs.Words.{short_sheet, numeral, number, name, part, word_at}
 use Rattle.words.specs.Numbers.{as_number, number_at, as_section, section_at, short_name, as_name, name_at}
 use Rattle.words.specs.Spelling.{Next}
@@ -55,13 +54,13 @@ decimal_numeral text h =
     )
 
 -- a number that is read stands there, and is in range
-pub record Stands (bs : List ℕ) (at low high : ℕ) (n : Reading) : Type 0 where
+pub record Stands (bs : List ℕ) (at low high : ℕ) (n : Reading ℕ) : Type 0 where
   pub next : Next bs at (decimal n.value) n.end
   pub above : low ≤ n.value
   pub below : n.value ≤ high
   pub small : n.value < 10 ^ 9
 
-pub number_stands : (bs : List ℕ) (at low high : ℕ) (n : Reading) → number_at bs at low high ≡ Ok n → Stands bs at low high n
+pub number_stands : (bs : List ℕ) (at low high : ℕ) (n : Reading ℕ) → number_at bs at low high ≡ Ok n → Stands bs at low high n
 number_stands bs at low high n h =
     let parts = then_parts (word_at bs at) (as_number low high) n h in
     let w = word_stands bs at parts.0 parts.1 in
@@ -69,8 +68,8 @@ number_stands bs at low high n h =
     let to : ℕ = w.1 in
     let p : ℕ = to - length text in
     let v : ℕ = digits_value 10 text in
-    let out_of : Told Reading = no 6 p in
-    let found : Reading = record { value = v; place = p; end = p + length text } in
+    let out_of : Told (Reading ℕ) = no 6 p in
+    let found : Reading ℕ = record { value = v; place = p; end = p + length text } in
     let got : as_number low high (part p text) ≡ Ok n = ap (as_number low high) (sym w.3) ∙ parts.2 in
     ⊎_elim
     (λ num.
@@ -104,11 +103,11 @@ number_read bs at low high v to n l h s =
     ∙ ap (λ e. Ok (record { value = v; place = p; end = e })) back
 
 -- a number that is due, and what was made of it
-pub due : {B : Type 0} (bs : List ℕ) (at low high : ℕ) (f : Reading → Told B) (y : B) → then (number_at bs at low high) f ≡ Ok y → (n : Reading) × Stands bs at low high n × (f n ≡ Ok y)
+pub due : {B : Type 0} (bs : List ℕ) (at low high : ℕ) (f : Reading ℕ → Told B) (y : B) → then (number_at bs at low high) f ≡ Ok y → (n : Reading ℕ) × Stands bs at low high n × (f n ≡ Ok y)
 due bs at low high f y h = let p = then_parts (number_at bs at low high) f y h in (p.0, number_stands bs at low high p.0 p.1, p.2)
 
 -- a number that stands there goes on to what is made of it
-pub found : {B : Type 0} (bs : List ℕ) (at low high v to : ℕ) (f : Reading → Told B) → Next bs at (decimal v) to → low ≤ v → v ≤ high → v < 10 ^ 9 → then (number_at bs at low high) f ≡ f (record { value = v; place = to - length (decimal v); end = to })
+pub found : {B : Type 0} (bs : List ℕ) (at low high v to : ℕ) (f : Reading ℕ → Told B) → Next bs at (decimal v) to → low ≤ v → v ≤ high → v < 10 ^ 9 → then (number_at bs at low high) f ≡ f (record { value = v; place = to - length (decimal v); end = to })
 found bs at low high v to f n l h s = then_ok f (number_read bs at low high v to n l h s)
 
 -- a section word is read exactly where it stands
@@ -145,21 +144,21 @@ as_name_part : (p : ℕ) (text : List ℕ) → as_name (part p text) ≡ short_n
 as_name_part p text = ⊎_elim (λ e. ap as_name (cond-true (numeral text) (number p text) (name p text) e)) (λ e. ap as_name (cond-false (numeral text) (number p text) (name p text) e)) (cases_Bool (numeral text))
 
 -- a name that is read stands there
-pub record NameSaid (bs : List ℕ) (at : ℕ) (n : Named) : Type 0 where
+pub record NameSaid (bs : List ℕ) (at : ℕ) (n : Reading (List ℕ)) : Type 0 where
   pub text : List ℕ
   pub short : length text ≤ 8
-  pub letters : n.letters ≡ tabled 8 text
+  pub letters : n.value ≡ tabled 8 text
   pub next : Next bs at text n.end
 
-pub name_stands : (bs : List ℕ) (at : ℕ) (n : Named) → name_at bs at ≡ Ok n → NameSaid bs at n
+pub name_stands : (bs : List ℕ) (at : ℕ) (n : Reading (List ℕ)) → name_at bs at ≡ Ok n → NameSaid bs at n
 name_stands bs at n h =
     let parts = then_parts (word_at bs at) as_name n h in
     let w = word_stands bs at parts.0 parts.1 in
     let text : List ℕ = w.0 in
     let to : ℕ = w.1 in
     let p : ℕ = to - length text in
-    let long : Told Named = no 6 p in
-    let made : Named = record { letters = tabled 8 text; place = p; end = p + length text } in
+    let long : Told (Reading (List ℕ)) = no 6 p in
+    let made : Reading (List ℕ) = record { value = tabled 8 text; place = p; end = p + length text } in
     let got : short_name p text ≡ Ok n = sym (as_name_part p text) ∙ ap as_name (sym w.3) ∙ parts.2 in
     ⊎_elim
     (λ z. absurd (let y : ◌≡◌ {A = ℕ} 0 1 = cc (got, cond-true (ltb 8 (length text)) long (Ok made) z) in omega arith))
@@ -169,7 +168,7 @@ name_stands bs at n h =
     subst (NameSaid bs at) is (record { text = text; short = ltb-false 8 (length text) z; letters = refl; next = subst (Next bs at text) back w.2 }))
     (cases_Bool (ltb 8 (length text)))
 
-pub name_read : (bs : List ℕ) (at : ℕ) (text : List ℕ) (to : ℕ) → length text ≤ 8 → Next bs at text to → name_at bs at ≡ Ok (record { letters = tabled 8 text; place = to - length text; end = to })
+pub name_read : (bs : List ℕ) (at : ℕ) (text : List ℕ) (to : ℕ) → length text ≤ 8 → Next bs at text to → name_at bs at ≡ Ok (record { value = tabled 8 text; place = to - length text; end = to })
 name_read bs at text to s n =
     let back : to - length text + length text ≡ to = omega (arith, n.ends) in
-    then_ok as_name (next_read bs at text to n) ∙ as_name_part (to - length text) text ∙ cond-false _ _ _ (le-ltb 8 (length text) s) ∙ ap (λ e. Ok (record { letters = tabled 8 text; place = to - length text; end = e })) back
+    then_ok as_name (next_read bs at text to n) ∙ as_name_part (to - length text) text ∙ cond-false _ _ _ (le-ltb 8 (length text) s) ∙ ap (λ e. Ok (record { value = tabled 8 text; place = to - length text; end = e })) back

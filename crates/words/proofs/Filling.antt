@@ -1,6 +1,6 @@
 -- Runs of numbers: read exactly where they stand.
 use Rattle.std.proofs.Common.{◌≡◌, ℕ, zero, suc, ◌+◌, ◌-◌, ◌^◌, ◌<◌, List, [], ◌∷◌, ◌++◌, map, length, set, Ok, decimal, sym, refl, ap, ◌∙◌, subst, arith}
-use Rattle.words.specs.declared.number.Reading.{Reading}
+use Rattle.words.specs.declared.reading.Reading.{Reading}
 use Rattle.refusal.specs.Questions.{Told, then, turns}
 use Rattle.refusal.proofs.Turning.{then_parts, ok_same, then_ok}
 use Rattle.words.specs.Numbers.{number_at}
@@ -20,10 +20,10 @@ spelled_split bs (x ∷ xs) ys a c h = let r = spelled_split bs xs ys h.0 c h.2 
 pub record Fills (S : Type 0) (bs : List ℕ) (high : ℕ → ℕ) (f : ℕ → S → Told S) : Type 0 where
   pub end : S → ℕ
   pub table : S → List ℕ
-  pub put : ℕ → S → Reading → S
+  pub put : ℕ → S → Reading ℕ → S
   pub reads : (k : ℕ) (s : S) → f k s ≡ then (number_at bs (end s) 0 (high k)) (λ n. Ok (put k s n))
-  pub ends : (k : ℕ) (s : S) (n : Reading) → end (put k s n) ≡ n.end
-  pub sets : (k : ℕ) (s : S) (n : Reading) → table (put k s n) ≡ set (table s) k n.value
+  pub ends : (k : ℕ) (s : S) (n : Reading ℕ) → end (put k s n) ≡ n.end
+  pub sets : (k : ℕ) (s : S) (n : Reading ℕ) → table (put k s n) ≡ set (table s) k n.value
 
 module _ {S : Type 0} {bs : List ℕ} {high : ℕ → ℕ} {f : ℕ → S → Told S} (F : Fills S bs high f) where
   pub record Filled (n k : ℕ) (s t : S) : Type 0 where
@@ -53,7 +53,7 @@ module _ {S : Type 0} {bs : List ℕ} {high : ℕ → ℕ} {f : ℕ → S → To
   pub fill_read : ((k : ℕ) → high k < 10 ^ 9) → (vs : List ℕ) (k : ℕ) (s : S) (to : ℕ) → UpTo high k vs → Spelled bs (F.end s) (map decimal vs) to → (t : S) × (turns f (length vs) k s ≡ Ok t) × (F.end t ≡ to) × (F.table t ≡ written (F.table s) k vs)
   fill_read small [] k s to u h = (s, refl, h, refl)
   fill_read small (v ∷ vs) k s to u h =
-      let n : Reading = record { value = v; place = h.0 - length (decimal v); end = h.0 } in
+      let n : Reading ℕ = record { value = v; place = h.0 - length (decimal v); end = h.0 } in
       let got : f k s ≡ Ok (F.put k s n) = F.reads k s ∙ then_ok _ (number_read bs (F.end s) 0 (high k) v h.0 h.1 (omega arith) u.0 (omega (arith, small k, u.0))) in
       let r = fill_read small vs (k + 1) (F.put k s n) to u.1 (subst (λ a. Spelled bs a (map decimal vs) to) (sym (F.ends k s n)) h.2) in
       (r.0, then_ok (turns f (length vs) (k + 1)) got ∙ r.1, r.2, r.3 ∙ ap (λ x. written x (k + 1) vs) (F.sets k s n))

@@ -1,6 +1,5 @@
 // Why a sheet is refused.
 ghost use Rattle.std.specs.Prelude.{◌≡◌};
-ghost use Rattle.refusal.specs.Questions.{refusal};
 ghost use Rattle.words.specs.Faults.{sheet_refusal};
 
 use refusal::Refusal;
@@ -20,32 +19,23 @@ pub enum SheetFault {
     RepeatedPlace(usize),
 }
 
-fn refused(question: u8, place: usize) -> Refusal
-    ensures { result ≡ refusal question place 0 }
-{
-    Refusal {
-        number: question,
-        a: place,
-        b: 0,
-    }
-}
+// The question that was answered no, and its place.
+impl From<SheetFault> for Refusal {
+    ghost from_gives = { λ e r. r ≡ sheet_refusal e };
 
-impl SheetFault {
-    // The question that was answered no, and its place.
-    pub fn refusal(self) -> Refusal
-        ensures { result ≡ sheet_refusal self }
-    {
-        match self {
-            SheetFault::TooLong => refused(1, 0),
-            SheetFault::BadByte(place) => refused(2, place),
-            SheetFault::NoWord(place) => refused(3, place),
-            SheetFault::WrongSection(place) => refused(4, place),
-            SheetFault::NoNumber(place) => refused(5, place),
-            SheetFault::OutOfRange(place) => refused(6, place),
-            SheetFault::BadLink(place) => refused(7, place),
-            SheetFault::BadTurn(place) => refused(8, place),
-            SheetFault::Overfull(place) => refused(9, place),
-            SheetFault::RepeatedPlace(place) => refused(10, place),
-        }
+    fn from(fault: SheetFault) -> Refusal {
+        let (number, a) = match fault {
+            SheetFault::TooLong => (1, 0),
+            SheetFault::BadByte(place) => (2, place),
+            SheetFault::NoWord(place) => (3, place),
+            SheetFault::WrongSection(place) => (4, place),
+            SheetFault::NoNumber(place) => (5, place),
+            SheetFault::OutOfRange(place) => (6, place),
+            SheetFault::BadLink(place) => (7, place),
+            SheetFault::BadTurn(place) => (8, place),
+            SheetFault::Overfull(place) => (9, place),
+            SheetFault::RepeatedPlace(place) => (10, place),
+        };
+        Refusal { number, a, b: 0 }
     }
 }

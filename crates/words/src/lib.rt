@@ -4,4 +4,6 @@
 pub mod fault;
 pub mod name;
 pub mod number;
+pub mod reading;
+pub mod recorded;
 pub mod word;

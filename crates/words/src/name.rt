@@ -5,15 +5,8 @@ ghost use Rattle.words.specs.Numbers.{name_at};
 ghost use Rattle.words.specs.Tables.{tabled};
 
 use crate::fault::SheetFault;
+use crate::reading::Reading;
 use crate::word::{Word, next_word};
-
-// A name, the place of its first byte, and where it ended; the letters are 0 beyond the last.
-#[derive(Clone, Copy)]
-pub struct Named {
-    pub letters: [u8; 8],
-    pub place: usize,
-    pub end: usize,
-}
 
 fn letters_of(text: &[u8]) -> [u8; 8]
     requires { length text.now ≤ 8 }
@@ -26,8 +19,8 @@ fn letters_of(text: &[u8]) -> [u8; 8]
     letters
 }
 
-// The next word as a name.
-pub fn name(bytes: &[u8], at: usize) -> Result<Named, SheetFault>
+// The next word as a name, with zeros beyond its last letter.
+pub fn name(bytes: &[u8], at: usize) -> Result<Reading<[u8; 8]>, SheetFault>
     ensures { told result ≡ name_at bytes.now at }
 {
     let (text, place) = match next_word(bytes, at)? {
@@ -38,8 +31,8 @@ pub fn name(bytes: &[u8], at: usize) -> Result<Named, SheetFault>
         return Err(SheetFault::OutOfRange(place));
     }
     let letters = letters_of(text);
-    Ok(Named {
-        letters,
+    Ok(Reading {
+        value: letters,
         place,
         end: place + text.len(),
     })

@@ -6,15 +6,8 @@ ghost use Rattle.words.specs.Words.{numeral};
 ghost use Rattle.words.specs.Numbers.{number_at, section_at};
 
 use crate::fault::SheetFault;
+use crate::reading::Reading;
 use crate::word::{Word, next_word};
-
-// A number that was read, the place of its first byte, and where it ended.
-#[derive(Clone, Copy)]
-pub struct Reading {
-    pub value: u32,
-    pub place: usize,
-    pub end: usize,
-}
 
 fn value_of(text: &[u8]) -> u32
     requires { numeral text.now ≡ true }
@@ -28,7 +21,7 @@ fn value_of(text: &[u8]) -> u32
 }
 
 // The next word as a number from `low` to `high`.
-pub fn number(bytes: &[u8], at: usize, low: u32, high: u32) -> Result<Reading, SheetFault>
+pub fn number(bytes: &[u8], at: usize, low: u32, high: u32) -> Result<Reading<u32>, SheetFault>
     ensures is { told result ≡ number_at bytes.now at low high }
     ensures within { IfOk result (λ n. (low ≤ n.value) × (n.value ≤ high)) }
 {
