@@ -9,6 +9,7 @@ mod tables;
 use area::area::Area;
 use lives::fault::AreaFault;
 use lives::state::State;
+use refusal::Refusal;
 use std::process::Abort;
 use std::test::Fail;
 use street::{Showing, Street};
@@ -20,7 +21,7 @@ pub type Told = (u8, usize, usize);
 pub type Stands = (State, usize, &'static [u32], &'static [u32]);
 
 pub(crate) fn told_of(fault: AreaFault) -> Told {
-    let refusal = fault.refusal();
+    let refusal = Refusal::from(fault);
     (refusal.number, refusal.a, refusal.b)
 }
 

@@ -40,7 +40,7 @@ fn shelved(answer: Result<usize, AreaFault>, number: usize, place: usize) -> Don
 {
     match answer {
         Ok(count) => Done::Shelved(count),
-        Err(fault) => Done::Refused(fault.refusal()),
+        Err(fault) => Done::Refused(Refusal::from(fault)),
     }
 }
 
@@ -50,7 +50,7 @@ fn stepped(answer: Result<Showing, AreaFault>) -> Done
     match answer {
         Ok(Showing::Shown) => Done::Shown,
         Ok(Showing::Dark) => Done::Dark,
-        Err(fault) => Done::Refused(fault.refusal()),
+        Err(fault) => Done::Refused(Refusal::from(fault)),
     }
 }
 
@@ -59,7 +59,7 @@ fn changed(answer: Result<(), AreaFault>, number: usize) -> Done
 {
     match answer {
         Ok(()) => Done::Changed,
-        Err(fault) => Done::Refused(fault.refusal()),
+        Err(fault) => Done::Refused(Refusal::from(fault)),
     }
 }
 
@@ -92,7 +92,7 @@ fn run_take<S: Street>(area: &mut Area<S>, hand: Option<Duty>, number: usize) ->
             Some(_held) => unreachable(),
         },
         Err(fault) => Ran {
-            done: Done::Refused(fault.refusal()),
+            done: Done::Refused(Refusal::from(fault)),
             hand,
         },
     }
@@ -127,7 +127,7 @@ fn run_give<S: Street>(area: &mut Area<S>, duty: Duty) -> Ran
             hand: None,
         },
         Err(Unspent { duty, fault }) => Ran {
-            done: Done::Refused(fault.refusal()),
+            done: Done::Refused(Refusal::from(fault)),
             hand: Some(duty),
         },
     }

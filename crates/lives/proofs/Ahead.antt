@@ -1,5 +1,5 @@
 -- While every row is shown, the envelope stays at or below the heaviest run of the plan on line, so that cover is never lost.
-use Rattle.std.proofs.Common.{◌≡◌, ℕ, ◌+◌, ◌<◌, Bool, true, false, cond, ltb, List, [], ◌∷◌, length, get_or, drop, Some, None, Ok, Err, Option, sym, refl, ◌∙◌, subst, le_trans, le_refl, arith}
+use Rattle.std.proofs.Common.{◌≡◌, ℕ, ◌+◌, ◌<◌, Bool, true, false, cond, ltb, List, [], ◌∷◌, length, get_or, drop, Some, None, Ok, Err, Option, sym, refl, ◌∙◌, subst, le_trans, le_refl}
 use Rattle.std.proofs.lemmas.List.{drop_more, drop_all}
 use Rattle.std.proofs.lemmas.Bool.{ltb-true, ltb-false}
 use Rattle.model.specs.declared.Answer.TheVariants.{Clear}
@@ -20,7 +20,7 @@ use Rattle.lives.specs.Calls.{Call, shelve, take, advance, change, give_back, Ou
 use Rattle.lives.specs.Lives.{Event, event, Life, fresh, then, AllShown}
 use Rattle.lives.proofs.Asked.{shelve_asked, take_asked, change_asked}
 use Rattle.lives.proofs.Shelf.{SoundPlan, put_keeps}
-use Rattle.lives.proofs.Sound.{Sound, off_not_covered, life_sound}
+use Rattle.lives.proofs.Sound.{Sound, life_sound}
 
 -- some state at or above the envelope from which the rest of the plan passes
 record Heavier (m : Meaning) (ls : List Limit) (p : Timing) (row : ℕ) (envelope : List ℕ) : Type 0 where
@@ -38,15 +38,8 @@ record Ahead (m : Meaning) (ls : List Limit) (st : State) (on : Option Timing) (
 abbrev BookAhead : Meaning → List Limit → Book → Type 0
 BookAhead m ls b = Ahead m ls b.state (slot b.shelf b.on) b.row b.envelope
 
--- an area that is covered or off line is not lost
-covered_not_lost : (loss : Loss) → Covered ≡ Lost loss → ⊥
-covered_not_lost loss e = let z : ◌≡◌ {A = ℕ} 0 1 = cc in omega arith
-
-off_not_lost : (loss : Loss) → OffLine ≡ Lost loss → ⊥
-off_not_lost loss e = let z : ◌≡◌ {A = ℕ} 0 1 = cc in omega arith
-
 off_ahead : (m : Meaning) (ls : List Limit) (on : Option Timing) (row : ℕ) (x : List ℕ) → Ahead m ls OffLine on row x
-off_ahead m ls on row x = record { not_lost = off_not_lost; run = λ e. off_not_covered e }
+off_ahead m ls on row x = record { not_lost = λ l e. cc; run = λ e. cc }
 
 -- at row 0 a plan is ahead of every state at or below its start
 begin_heavier : (m : Meaning) (ls : List Limit) (p : Timing) (x : List ℕ) → SoundPlan m ls p → Below x p.start → Heavier m ls p 0 x
@@ -110,7 +103,7 @@ module _ (m : Meaning) (law : Lawful m) (ls : List Limit) (p : Timing) (sound : 
       → Ahead m ls st (Some p) (row_after Shown i (length p.rows)) (envelope_in m st (m.next row x m.loads))
   shown_ahead st e =
       subst (λ s. Ahead m ls s (Some p) (row_after Shown i (length p.rows)) (envelope_in m s (m.next row x m.loads))) (sym (e ∙ covered_after))
-      (record { not_lost = covered_not_lost; run = λ c. (p, refl, heavier_after (ltb (i + 1) (length p.rows)) refl) })
+      (record { not_lost = λ l e. cc; run = λ c. (p, refl, heavier_after (ltb (i + 1) (length p.rows)) refl) })
 
 module _ (m : Meaning) (law : Lawful m) (ls : List Limit) where
   -- a row of the plan on line was shown
@@ -145,7 +138,7 @@ module _ (m : Meaning) (law : Lawful m) (ls : List Limit) where
       let f = take_asked m ls a t k y in
       let p = f.plan in
       record {
-        not_lost = covered_not_lost;
+        not_lost = λ l e. cc;
         run = λ e. (
           p,
           f.stands,

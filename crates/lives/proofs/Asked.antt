@@ -1,5 +1,5 @@
 -- What the questions of an accepted call have told.
-use Rattle.std.proofs.Common.{◌≡◌, ℕ, zero, suc, Bool, true, false, ◌&&◌, eqb, List, get_or, Some, None, Ok, Err, Option, refl, arith}
+use Rattle.std.proofs.Common.{◌≡◌, ℕ, zero, suc, Bool, true, false, ◌&&◌, eqb, List, get_or, Some, None, Ok, Err, Option, refl}
 use Rattle.std.proofs.lemmas.Bool.{and_parts}
 use Rattle.refusal.specs.declared.Refusal.{Refusal}
 use Rattle.refusal.specs.Questions.{refusal, Told, then}
@@ -12,22 +12,18 @@ use Rattle.plan_sheet.specs.Accepts.{reads}
 use Rattle.lives.specs.Area.{Area, slot}
 use Rattle.lives.specs.Calls.{Call, shelve, take, advance, change, Tale, ask, else_ask, is_empty, is_on, no_in, ask_number, ask_empty, ask_sheet, ask_off, ask_below, ask_plan, ask_duty, ask_covered, first_no, Answers}
 
--- something is not nothing
-pub some_none : {A P : Type 0} (a : A) → ◌≡◌ {A = Option A} (Some a) None → P
-some_none a e = let z : ◌≡◌ {A = ℕ} 0 1 = cc in absurd (omega arith)
-
 -- an accepted call had no question answered no
 pub all_yes : (m : Meaning) (a : Area) (c : Call) (t : Tale) (q : Option Refusal) → Answers m a c q (Ok t) → q ≡ None
-all_yes m a c t (Some r) e = let z : ◌≡◌ {A = ℕ} 0 1 = cc in absurd (omega arith)
+all_yes m a c t (Some r) e = cc
 all_yes m a c t None h = refl
 
 both_yes : (q r : Option Refusal) → else_ask q r ≡ None → (q ≡ None) × (r ≡ None)
-both_yes (Some x) r e = some_none x e
+both_yes (Some x) r e = cc
 both_yes None r e = (refl, e)
 
 yes : (t : Bool) (r : Refusal) → ask t r ≡ None → t ≡ true
 yes true r e = refl
-yes false r e = some_none r e
+yes false r e = cc
 
 -- a plan stands there, and the state is nowhere above its start
 pub record Found (o : Option Timing) (x : List ℕ) : Type 0 where
@@ -37,10 +33,10 @@ pub record Found (o : Option Timing) (x : List ℕ) : Type 0 where
 
 below_yes : (n : ℕ) (o : Option ℕ) → ask_below n o ≡ None → o ≡ None
 below_yes n None e = refl
-below_yes n (Some p) e = some_none _ e
+below_yes n (Some p) e = cc
 
 plan_yes : (n : ℕ) (x : List ℕ) (o : Option Timing) → ask_plan n x o ≡ None → Found o x
-plan_yes n x None e = some_none _ e
+plan_yes n x None e = cc
 plan_yes n x (Some p) e = record { plan = p; stands = refl; low = below_yes n (lowest_above x p.start) e }
 
 -- what is to be put under an empty number: a plan that was read and that the check accepts
@@ -55,17 +51,17 @@ pub record Shelvable (m : Meaning) (ls : List Limit) (shelf : List (Option Timin
 
 pub told_in : {A : Type 0} (t : Told A) → no_in t ≡ None → (x : A) × (t ≡ Ok x)
 told_in (Ok x) e = (x, refl)
-told_in (Err r) e = some_none r e
+told_in (Err r) e = cc
 
 empty_none : (o : Option Timing) → is_empty o ≡ true → o ≡ None
 empty_none None e = refl
-empty_none (Some p) e = let z : ◌≡◌ {A = ℕ} 0 1 = cc in absurd (omega arith)
+empty_none (Some p) e = cc
 
 module _ (m : Meaning) (ls : List Limit) where
   shelvable :
       (shelf : List (Option Timing)) (n : ℕ) (sheet : List ℕ) → ask_number n ≡ None → slot shelf n ≡ None
       → ask_sheet m ls (reads m sheet) ≡ None → Shelvable m ls shelf n sheet
-  shelvable shelf zero sheet e z h = some_none _ e
+  shelvable shelf zero sheet e z h = cc
   shelvable shelf (suc k) sheet e z h =
       let t = told_in (then (reads m sheet) (λ p. checked m ls p.start p.rows)) h in
       let q = then_parts (reads m sheet) (λ p. checked m ls p.start p.rows) t.0 t.1 in

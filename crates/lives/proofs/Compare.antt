@@ -1,5 +1,5 @@
 -- Two spells side by side.
-use Rattle.std.proofs.Common.{◌≡◌, ℕ, false, List, Some, None, Ok, Err, Option, sym, refl, ap, ◌∙◌, subst, arith}
+use Rattle.std.proofs.Common.{◌≡◌, ℕ, false, List, Some, None, Ok, Err, Option, sym, refl, ap, ◌∙◌, subst}
 use Rattle.model.specs.Model.{Meaning, Lawful}
 use Rattle.model.specs.State.{Below}
 use Rattle.street.specs.declared.Showing.{Showing}
@@ -7,36 +7,28 @@ use Rattle.street.specs.Street.{Seen, lamps_after}
 use Rattle.plan.specs.declared.limits.Limit.{Limit}
 use Rattle.lives.specs.declared.state.State.TheVariants.{Covered}
 use Rattle.lives.specs.Area.{Book, Area, current_row, stepped}
-use Rattle.lives.specs.Calls.{Call, shelve, take, advance, change, give_back, Tale, rows, duty, street, done, Outcome, answer_in, done_to, book_after, step_in, Moves, Calls}
+use Rattle.lives.specs.Calls.{Call, take, advance, Tale, duty, street, Outcome, answer_in, done_to, book_after, step_in, Moves, Calls}
 use Rattle.lives.specs.Lives.{begins, unnumbered, tale_unnumbered, outcome_unnumbered, ReceivesNoMore, Abreast, at_take, both_call}
 use Rattle.lives.specs.Promises.{SpellsCompare}
-use Rattle.lives.proofs.Sound.{Sound, off_not_covered, kept, reached, book_stepped, call_sound, life_sound, step_clear}
+use Rattle.lives.proofs.Sound.{Sound, kept, reached, book_stepped, call_sound, life_sound, step_clear}
 
 -- Duty numbers change nothing but who is let in.
 
 answer_unnumbered : (t : Tale) → answer_in (tale_unnumbered t) ≡ answer_in t
-answer_unnumbered (rows n) = refl
-answer_unnumbered (duty n) = refl
 answer_unnumbered (street s) = refl
-answer_unnumbered done = refl
+answer_unnumbered _ = refl
 
 book_unnumbered :
     (m : Meaning) (ls : List Limit) (c : Call) (o : Outcome) (b : Book)
     → book_after m ls (unnumbered c) (outcome_unnumbered o) b ≡ book_after m ls c o b
 book_unnumbered m ls c (Err r) b = refl
-book_unnumbered m ls (shelve n sheet) (Ok t) b = refl
-book_unnumbered m ls (take n) (Ok t) b = refl
 book_unnumbered m ls (advance d) (Ok t) b = ap (λ s. stepped m ls s b) (answer_unnumbered t)
-book_unnumbered m ls (change d n) (Ok t) b = refl
-book_unnumbered m ls (give_back d) (Ok t) b = refl
+book_unnumbered m ls _ (Ok t) b = refl
 
 step_unnumbered : (c : Call) (o : Outcome) → step_in (unnumbered c) (outcome_unnumbered o) ≡ step_in c o
 step_unnumbered c (Err r) = refl
-step_unnumbered (shelve n sheet) (Ok t) = refl
-step_unnumbered (take n) (Ok t) = refl
 step_unnumbered (advance d) (Ok t) = ap {B = Option Showing} Some (answer_unnumbered t)
-step_unnumbered (change d n) (Ok t) = refl
-step_unnumbered (give_back d) (Ok t) = refl
+step_unnumbered _ (Ok t) = refl
 
 book_alike :
     (m : Meaning) (ls : List Limit) (c e : Call) (o q : Outcome) (b v : Book)
@@ -65,11 +57,8 @@ was_covered :
     (m : Meaning) (ls : List Limit) (c : Call) (o : Outcome) (b : Book)
     → begins c o ≡ false → (book_after m ls c o b).state ≡ Covered → b.state ≡ Covered
 was_covered m ls c (Err r) b n e = e
-was_covered m ls (shelve k sheet) (Ok t) b n e = e
-was_covered m ls (take k) (Ok t) b n e = let z : ◌≡◌ {A = ℕ} 0 1 = cc in absurd (omega arith)
 was_covered m ls (advance d) (Ok t) b n e = (kept m ls (lamps_after m (answer_in t) (current_row m b)) b.row b.envelope b.state e).before
-was_covered m ls (change d k) (Ok t) b n e = e
-was_covered m ls (give_back d) (Ok t) b n e = off_not_covered e
+was_covered m ls _ (Ok t) b n e = cc
 
 module _ (m : Meaning) (law : Lawful m) (ls : List Limit) where
   -- one step of both streets from the same book

@@ -11,7 +11,6 @@ use Rattle.plan_sheet.specs.Accepts.{reads}
 use Rattle.lives.specs.Area.{Area, current_row}
 use Rattle.lives.specs.Calls.{Call, shelve, take, advance, change, give_back, Tale, rows, duty, street, done, Outcome, first_no, count_in, Tells, Answers, answer_in, book_after, step_in, Moves}
 use Rattle.lives.specs.Promises.{AsChosen, EveryCallAnswers, OnlyTheStreetIsFree}
-use Rattle.lives.proofs.Asked.{some_none}
 
 -- what an accepted call tells, where the street answers s
 tale : Meaning → Area → Showing → Call → Tale
@@ -23,11 +22,8 @@ tale m a s (give_back d) = done
 
 tale_tells : (m : Meaning) (a : Area) (s : Showing) (c : Call) → Tells m a c (tale m a s c)
 unfolding tale
-tale_tells m a s (shelve n sheet) = refl
-tale_tells m a s (take n) = refl
 tale_tells m a s (advance d) = (s, refl)
-tale_tells m a s (change d n) = refl
-tale_tells m a s (give_back d) = refl
+tale_tells m a s _ = refl
 
 outcome : Meaning → Area → Showing → Call → Option Refusal → Outcome
 outcome m a s c (Some r) = Err r
@@ -41,12 +37,9 @@ outcome_answers m a s c None = tale_tells m a s c
 -- a step, where there is one, has the street's answer
 step_chosen : (m : Meaning) (a : Area) (s : Showing) (c : Call) (q : Option Refusal) (t : Showing) → step_in c (outcome m a s c q) ≡ Some t → t ≡ s
 unfolding outcome tale
-step_chosen m a s c (Some r) t e = some_none _ (sym e)
-step_chosen m a s (shelve n sheet) None t e = some_none _ (sym e)
-step_chosen m a s (take n) None t e = some_none _ (sym e)
+step_chosen m a s c (Some r) t e = cc
 step_chosen m a s (advance d) None t e = cc
-step_chosen m a s (change d n) None t e = some_none _ (sym e)
-step_chosen m a s (give_back d) None t e = some_none _ (sym e)
+step_chosen m a s _ None t e = cc
 
 street_after : Meaning → List ℕ → List ℕ → Seen → Option Showing → Seen
 street_after m row v before None = before
@@ -92,18 +85,15 @@ every_call_answers m ls a es life c s v u legal =
 told_alike :
     (m : Meaning) (a : Area) (c : Call) (t u : Tale) → Tells m a c t → Tells m a c u
     → step_in c (Ok t) ≡ step_in c (Ok u) → t ≡ u
-told_alike m a (shelve n sheet) t u x y e = x ∙ sym y
-told_alike m a (take n) t u x y e = x ∙ sym y
 told_alike m a (advance d) t u x y e =
     let f : answer_in t ≡ answer_in u = cc in
     x.1 ∙ ap street (sym (ap answer_in x.1) ∙ f ∙ ap answer_in y.1) ∙ sym y.1
-told_alike m a (change d n) t u x y e = x ∙ sym y
-told_alike m a (give_back d) t u x y e = x ∙ sym y
+told_alike m a _ t u x y e = x ∙ sym y
 
 outcome_alike :
     (m : Meaning) (a : Area) (c : Call) (k : Option Refusal) (o q : Outcome) → Answers m a c k o → Answers m a c k q
     → step_in c o ≡ step_in c q → o ≡ q
-outcome_alike m a c (Some r) o q x y e = x ∙ sym y
+outcome_alike m a c (Some r) o q x y e = cc
 outcome_alike m a c None (Err r) q x y e = absurd x
 outcome_alike m a c None (Ok t) (Err r) x y e = absurd y
 outcome_alike m a c None (Ok t) (Ok u) x y e = ap Ok (told_alike m a c t u x y e)
@@ -113,9 +103,8 @@ street_alike :
     → s.arrivals ≡ u.arrivals → s ≡ u
 street_alike m row None before s u x y e = x ∙ sym y
 street_alike m row (Some b) before s u x y e =
-    let l : s.lamps ≡ u.lamps = x.lamps ∙ sym y.lamps in
-    let f : m.next s.lamps before.queues s.arrivals ≡ m.next u.lamps before.queues u.arrivals = rw (l, e) in
-    let q = x.queues ∙ f ∙ sym y.queues in
+    let l : s.lamps ≡ u.lamps = cc in
+    let q : s.queues ≡ u.queues = cc in
     λ i. record { queues = q i; lamps = l i; arrivals = e i }
 
 pub only_the_street_is_free : (m : Meaning) (ls : List Limit) → OnlyTheStreetIsFree m ls

@@ -13,7 +13,7 @@ use Rattle.lives.specs.Lives.{Event, event, Life, fresh, then, one_more, shown_s
 use Rattle.lives.specs.Promises.{Rounds}
 use Rattle.lives.proofs.Asked.{Found, shelve_asked, take_asked, advance_asked, change_asked}
 use Rattle.lives.proofs.Shelf.{SoundShelf, put_keeps}
-use Rattle.lives.proofs.Sound.{Sound, off_not_on, was_on, life_sound}
+use Rattle.lives.proofs.Sound.{Sound, was_on, life_sound}
 
 -- there are rows to show, and the current one is the k-th, counted round
 record Round (rs : List (List ℕ)) (row k : ℕ) : Type 0 where
@@ -68,10 +68,10 @@ module _ (m : Meaning) (law : Lawful m) (ls : List Limit) where
       step_round (rows_on b) b.row (shown_since es) (answer_in t) (h (was_on m ls _ b.row b.envelope b.state e))
   after_round a es (change d k) (Ok t) s y h e =
       begin_round m ls a.book.shelf k a.book.envelope s.shelf (change_asked m ls a t d k y)
-  after_round a es (give_back d) (Ok t) s y h e = off_not_on e
+  after_round a es (give_back d) (Ok t) s y h e = cc
 
   life_round : {a : Area} {es : List Event} → Life m ls a es → is_on a.book.state ≡ true → Round (rows_on a.book) a.book.row (shown_since es)
-  life_round (fresh k s w) e = off_not_on e
+  life_round (fresh k s w) e = cc
   life_round (then {a} {es} {b} {c} {o} life s) e =
       subst (λ x. Round (rows_on x) x.row (shown_since (event c o ∷ es))) (sym s.book)
       (after_round a es c o (life_sound m law ls life) s.answer (life_round life) (subst (λ x. is_on x.state ≡ true) s.book e))

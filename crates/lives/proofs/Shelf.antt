@@ -1,5 +1,6 @@
 -- The plans on a shelf, and what a plan that is put there changes.
-use Rattle.std.proofs.Common.{◌≡◌, ℕ, zero, suc, ◌≤◌, ◌⊎◌, List, [], ◌∷◌, length, get_or, set, replicate, Some, None, Option, sym, subst, inl, inr, ⊎_elim}
+use Rattle.std.proofs.Common.{◌≡◌, ℕ, zero, suc, ◌≤◌, ◌⊎◌, List, [], ◌∷◌, length, get_or, set, replicate, Some, None, Option, sym, ◌∙◌, subst, inl, inr, ⊎_elim}
+use Rattle.std.proofs.lemmas.List.{get_or-set_other}
 use Rattle.model.specs.Model.{Meaning, Lawful}
 use Rattle.plan.specs.declared.limits.Limit.{Limit}
 use Rattle.plan.specs.Check.{Timing, PassesRound}
@@ -8,7 +9,7 @@ use Rattle.plan_sheet.specs.Accepts.{reads}
 use Rattle.plan_sheet.proofs.Accepting.{well_read}
 use Rattle.lives.specs.Area.{slot}
 use Rattle.lives.specs.Calls.{put}
-use Rattle.lives.proofs.Asked.{some_none, Shelvable}
+use Rattle.lives.proofs.Asked.{Shelvable}
 
 -- what every plan on a shelf has: a whole start, a row, and a round that passes
 pub record SoundPlan (m : Meaning) (ls : List Limit) (p : Timing) : Type 0 where
@@ -19,17 +20,14 @@ pub record SoundPlan (m : Meaning) (ls : List Limit) (p : Timing) : Type 0 where
 abbrev pub SoundShelf : Meaning → List Limit → List (Option Timing) → Type 0
 SoundShelf m ls shelf = (n : ℕ) (p : Timing) → slot shelf n ≡ Some p → SoundPlan m ls p
 
-none_some : {P : Type 0} (p : Timing) → ◌≡◌ {A = Option Timing} None (Some p) → P
-none_some p e = some_none p (sym e)
-
 -- a shelf without a plan
 bare : (n k : ℕ) (p : Timing) {P : Type 0} → get_or (replicate n None) k None ≡ Some p → P
-bare zero k p e = none_some p e
-bare (suc n) zero p e = none_some p e
+bare zero k p e = cc
+bare (suc n) zero p e = cc
 bare (suc n) (suc k) p e = bare n k p e
 
 pub bare_sound : (m : Meaning) (ls : List Limit) → SoundShelf m ls (replicate 8 None)
-bare_sound m ls zero p e = none_some p e
+bare_sound m ls zero p e = cc
 bare_sound m ls (suc k) p e = bare 8 k p e
 
 -- what stands on a shelf after a plan is put there is that plan, or it stood there before
@@ -42,16 +40,6 @@ set_found (o ∷ s) zero p (suc k) q e = inr e
 set_found (o ∷ s) (suc i) p zero q e = inr e
 set_found (o ∷ s) (suc i) p (suc k) q e = set_found s i p k q e
 
--- what stands on a shelf stays there when a plan is put where none is
-set_stays :
-    (s : List (Option Timing)) (i : ℕ) (v : Option Timing) (k : ℕ) (q : Timing) → get_or s i None ≡ None → get_or s k None ≡ Some q
-    → get_or (set s i v) k None ≡ Some q
-set_stays [] i v k q z e = e
-set_stays (o ∷ s) zero v zero q z e = none_some q (subst (λ x. x ≡ Some q) z e)
-set_stays (o ∷ s) zero v (suc k) q z e = e
-set_stays (o ∷ s) (suc i) v zero q z e = e
-set_stays (o ∷ s) (suc i) v (suc k) q z e = set_stays s i v k q z e
-
 module _ (m : Meaning) (ls : List Limit) (shelf : List (Option Timing)) (n : ℕ) (sheet : List ℕ) (h : Shelvable m ls shelf n sheet) where
   put_is : put n (reads m sheet) shelf ≡ set shelf h.index (Some h.plan)
   put_is = rw (h.number, h.read)
@@ -63,7 +51,7 @@ module _ (m : Meaning) (ls : List Limit) (shelf : List (Option Timing)) (n : ℕ
       record { whole = w.0; some = w.1; passes = checked_passed m ls law p.start p.rows h.count w.0 h.passed }
 
   set_sound : Lawful m → SoundShelf m ls shelf → SoundShelf m ls (set shelf h.index (Some h.plan))
-  set_sound law s zero p e = none_some p e
+  set_sound law s zero p e = cc
   set_sound law s (suc k) p e =
       ⊎_elim (λ same. subst (SoundPlan m ls) same (read_sound law)) (λ old. s (suc k) p old) (set_found shelf h.index h.plan k p e)
 
@@ -72,7 +60,9 @@ module _ (m : Meaning) (ls : List Limit) (shelf : List (Option Timing)) (n : ℕ
 
   set_keeps : (k : ℕ) (p : Timing) → slot shelf k ≡ Some p → slot (set shelf h.index (Some h.plan)) k ≡ Some p
   set_keeps zero p e = e
-  set_keeps (suc k) p e = set_stays shelf h.index (Some h.plan) k p h.empty e
+  set_keeps (suc k) p e =
+      let empty : get_or shelf h.index None ≡ None = h.empty in
+      get_or-set_other shelf h.index k (Some h.plan) None (λ same. cc) ∙ e
 
   pub put_keeps : (k : ℕ) (p : Timing) → slot shelf k ≡ Some p → slot (put n (reads m sheet) shelf) k ≡ Some p
   put_keeps k p e = subst (λ s. slot s k ≡ Some p) (sym put_is) (set_keeps k p e)

@@ -13,7 +13,7 @@ use Rattle.lives.specs.Area.{Area, slot}
 use Rattle.lives.specs.Calls.{shelve, rows, Outcome, no_in, first_no, Answers, count_in, book_after}
 use Rattle.lives.specs.Lives.{Event, Life, fresh, then}
 use Rattle.lives.specs.Promises.{Shelving, ShelfChecked, TellingFollows, RefusalChangesNothing}
-use Rattle.lives.proofs.Asked.{some_none, told_in, all_yes}
+use Rattle.lives.proofs.Asked.{told_in, all_yes}
 use Rattle.lives.proofs.Sound.{life_sound}
 
 -- under a fitting, empty number only the check of the plan is left to ask
@@ -26,7 +26,7 @@ only_check m ls a n sheet p low high e f = rw (le-leb 1 n low, le-leb n 8 high, 
 told_rows :
     (m : Meaning) (a : Area) (n : ℕ) (sheet : List ℕ) (p : Timing) (q : Option Refusal) (o : Outcome) → reads m sheet ≡ Ok p
     → q ≡ None → Answers m a (shelve n sheet) q o → o ≡ Ok (rows (length p.rows))
-told_rows m a n sheet p (Some r) o f e y = some_none r e
+told_rows m a n sheet p (Some r) o f e y = cc
 told_rows m a n sheet p None (Err r) f e y = absurd y
 told_rows m a n sheet p None (Ok t) f e y = ap Ok (y ∙ ap (λ x. rows (count_in x)) f)
 

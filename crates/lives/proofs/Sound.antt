@@ -1,5 +1,5 @@
 -- What every area of a life has: checked plans on its shelf, a plan on line, and while it is covered a street within its envelope.
-use Rattle.std.proofs.Common.{◌≡◌, ℕ, true, List, length, Some, None, Ok, Err, Option, sym, refl, ap, subst, arith}
+use Rattle.std.proofs.Common.{◌≡◌, ℕ, true, List, length, Some, None, Ok, Err, Option, sym, refl, subst}
 use Rattle.model.specs.declared.Answer.{Answer}
 use Rattle.model.specs.declared.Answer.TheVariants.{Clear, Held}
 use Rattle.model.specs.Model.{Meaning, Lawful, Reaches}
@@ -15,9 +15,9 @@ use Rattle.plan.proofs.Runs.{start_keeps}
 use Rattle.lives.specs.declared.state.State.{State}
 use Rattle.lives.specs.declared.state.State.TheVariants.{OffLine, Covered, Lost}
 use Rattle.lives.specs.Area.{Book, Area, slot, start_in, current_row, fresh_book, cover_after, state_after, envelope_in, stepped}
-use Rattle.lives.specs.Calls.{Call, shelve, take, advance, change, give_back, Tale, Outcome, is_on, first_no, Answers, answer_in, done_to, book_after, step_in, Moves, Calls}
+use Rattle.lives.specs.Calls.{Call, shelve, take, advance, change, give_back, Tale, Outcome, is_on, first_no, Answers, done_to, book_after, step_in, Moves, Calls}
 use Rattle.lives.specs.Lives.{Event, Life, fresh, then}
-use Rattle.lives.proofs.Asked.{Found, some_none, shelve_asked, take_asked, advance_asked, change_asked}
+use Rattle.lives.proofs.Asked.{Found, shelve_asked, take_asked, advance_asked, change_asked}
 use Rattle.lives.proofs.Shelf.{SoundShelf, bare_sound, put_sound, put_keeps}
 
 -- a covered area's envelope and queues
@@ -34,17 +34,6 @@ pub record Sound (m : Meaning) (ls : List Limit) (b : Book) (queues : List ℕ) 
   pub tops : (b.state ≡ Covered → ⊥) → b.envelope ≡ m.tops
   pub off : b.state ≡ OffLine → b.row ≡ 0
 
--- States that differ.
-
-pub off_not_on : {P : Type 0} → is_on OffLine ≡ true → P
-off_not_on e = let z : ◌≡◌ {A = ℕ} 0 1 = cc in absurd (omega arith)
-
-pub off_not_covered : {P : Type 0} → OffLine ≡ Covered → P
-off_not_covered e = let z : ◌≡◌ {A = ℕ} 0 1 = cc in absurd (omega arith)
-
-covered_not_off : {P : Type 0} → Covered ≡ OffLine → P
-covered_not_off e = off_not_covered (sym e)
-
 -- A step.
 
 -- An area that is covered after a step was covered before it, the lamps' row was clear for the envelope,
@@ -55,37 +44,35 @@ pub record Kept (m : Meaning) (ls : List Limit) (lamps x : List ℕ) (st : State
   pub unbroken : first_broken ls (m.next lamps x m.loads) ≡ None
 
 after_covered : (row : ℕ) (a : Answer) (l : Option ℕ) → cover_after row a l ≡ Covered → (a ≡ Clear) × (l ≡ None)
-after_covered row (Held p c) l e = let z : ◌≡◌ {A = ℕ} 0 1 = cc in absurd (omega arith)
-after_covered row Clear (Some l) e = let z : ◌≡◌ {A = ℕ} 0 1 = cc in absurd (omega arith)
+after_covered row (Held p c) l e = cc
+after_covered row Clear (Some l) e = cc
 after_covered row Clear None e = (refl, refl)
 
 pub kept : (m : Meaning) (ls : List Limit) (lamps : List ℕ) (row : ℕ) (x : List ℕ) (st : State) → state_after m ls lamps row x st ≡ Covered → Kept m ls lamps x st
-kept m ls lamps row x OffLine e = off_not_covered e
+kept m ls lamps row x OffLine e = cc
 kept m ls lamps row x Covered e =
     let h = after_covered row (m.answer lamps x m.loads) (first_broken ls (m.next lamps x m.loads)) e in
     record { before = refl; is_clear = h.0; unbroken = h.1 }
-kept m ls lamps row x (Lost loss) e = let z : ◌≡◌ {A = ℕ} 0 1 = cc in absurd (omega arith)
+kept m ls lamps row x (Lost loss) e = cc
 
 -- an area is on line after a step exactly if it was before it
 pub was_on : (m : Meaning) (ls : List Limit) (lamps : List ℕ) (row : ℕ) (x : List ℕ) (st : State) → is_on (state_after m ls lamps row x st) ≡ true → is_on st ≡ true
 was_on m ls lamps row x OffLine e = e
-was_on m ls lamps row x Covered e = refl
-was_on m ls lamps row x (Lost loss) e = refl
+was_on m ls lamps row x _ e = refl
 
 after_on : {P : Type 0} (row : ℕ) (a : Answer) (l : Option ℕ) → cover_after row a l ≡ OffLine → P
-after_on row (Held p c) l e = let z : ◌≡◌ {A = ℕ} 0 1 = cc in absurd (omega arith)
-after_on row Clear (Some l) e = let z : ◌≡◌ {A = ℕ} 0 1 = cc in absurd (omega arith)
-after_on row Clear None e = covered_not_off e
+after_on row (Held p c) l e = cc
+after_on row Clear (Some l) e = cc
+after_on row Clear None e = cc
 
 stays_on : {P : Type 0} (m : Meaning) (ls : List Limit) (lamps : List ℕ) (row : ℕ) (x : List ℕ) (st : State) → is_on st ≡ true → state_after m ls lamps row x st ≡ OffLine → P
-stays_on m ls lamps row x OffLine h e = off_not_on h
+stays_on m ls lamps row x OffLine h e = cc
 stays_on m ls lamps row x Covered h e = after_on row (m.answer lamps x m.loads) (first_broken ls (m.next lamps x m.loads)) e
-stays_on m ls lamps row x (Lost loss) h e = let z : ◌≡◌ {A = ℕ} 0 1 = cc in absurd (omega arith)
+stays_on m ls lamps row x (Lost loss) h e = cc
 
 bare_envelope : (m : Meaning) (st : State) (x : List ℕ) → (st ≡ Covered → ⊥) → envelope_in m st x ≡ m.tops
-bare_envelope m OffLine x h = refl
 bare_envelope m Covered x h = absurd (h refl)
-bare_envelope m (Lost loss) x h = refl
+bare_envelope m _ x h = refl
 
 -- the queues are reached under the lamps after the row
 pub reached :
@@ -97,12 +84,9 @@ reached m row before after s h = subst (λ l. Reaches m l before.queues after.ar
 pub book_stepped :
     (m : Meaning) (ls : List Limit) (b : Book) (c : Call) (o : Outcome) (s : Showing)
     → step_in c o ≡ Some s → book_after m ls c o b ≡ stepped m ls s b
-book_stepped m ls b c (Err r) s e = some_none _ (sym e)
-book_stepped m ls b (shelve n sheet) (Ok t) s e = some_none _ (sym e)
-book_stepped m ls b (take n) (Ok t) s e = some_none _ (sym e)
-book_stepped m ls b (advance d) (Ok t) s e = let f : answer_in t ≡ s = cc in ap (λ v. stepped m ls v b) f
-book_stepped m ls b (change d n) (Ok t) s e = some_none _ (sym e)
-book_stepped m ls b (give_back d) (Ok t) s e = some_none _ (sym e)
+book_stepped m ls b c (Err r) s e = cc
+book_stepped m ls b (advance d) (Ok t) s e = cc
+book_stepped m ls b _ (Ok t) s e = cc
 
 module _ (m : Meaning) (law : Lawful m) (ls : List Limit) where
   -- whatever is reached with less is at or below the next state with more, if the row is clear for that
@@ -114,9 +98,9 @@ module _ (m : Meaning) (law : Lawful m) (ls : List Limit) where
   fresh_sound s w =
       record {
         shelf = bare_sound m ls;
-        line = λ e. off_not_on e;
+        line = λ e. cc;
         whole = w.queues.size;
-        cover = λ e. off_not_covered e;
+        cover = λ e. cc;
         tops = λ e. refl;
         off = λ e. refl;
       }
@@ -189,9 +173,9 @@ module _ (m : Meaning) (law : Lawful m) (ls : List Limit) where
         whole = sound.whole;
         cover = λ e. take_covering a n sound f;
         tops = λ e. absurd (e refl);
-        off = λ e. covered_not_off e;
+        off = λ e. cc;
       }
-  done_sound a (advance d) t sound y z = some_none _ z
+  done_sound a (advance d) t sound y z = cc
   done_sound a (change d n) t sound y z =
       let f = change_asked m ls a t d n y in
       record {
@@ -205,20 +189,17 @@ module _ (m : Meaning) (law : Lawful m) (ls : List Limit) where
   done_sound a (give_back d) t sound y z =
       record {
         shelf = sound.shelf;
-        line = λ e. off_not_on e;
+        line = λ e. cc;
         whole = sound.whole;
-        cover = λ e. off_not_covered e;
+        cover = λ e. cc;
         tops = λ e. refl;
         off = λ e. refl;
       }
 
   -- a call that was a step is an accepted advance
   step_on : (a : Area) (c : Call) (t : Tale) (s : Showing) → Answers m a c (first_no m ls a c) (Ok t) → step_in c (Ok t) ≡ Some s → is_on a.book.state ≡ true
-  step_on a (shelve n sheet) t s y e = some_none _ (sym e)
-  step_on a (take n) t s y e = some_none _ (sym e)
   step_on a (advance d) t s y e = advance_asked m ls a t d y
-  step_on a (change d n) t s y e = some_none _ (sym e)
-  step_on a (give_back d) t s y e = some_none _ (sym e)
+  step_on a _ t s y e = cc
 
   -- an accepted call, by whether it was a step
   accepted_sound :

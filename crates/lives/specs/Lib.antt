@@ -1,4 +1,5 @@
 pub mod Faults
+pub mod Text
 pub mod Area
 pub mod Calls
 pub mod Lives

@@ -36,11 +36,11 @@ impl From<PlanFault> for AreaFault {
     }
 }
 
-impl AreaFault {
-    pub fn refusal(self) -> Refusal
-        ensures { result ≡ area_refusal self }
-    {
-        let (number, a) = match self {
+impl From<AreaFault> for Refusal {
+    ghost from_gives = { λ e r. r ≡ area_refusal e };
+
+    fn from(e: AreaFault) -> Refusal {
+        let (number, a) = match e {
             AreaFault::NoShelf => (11, 0),
             AreaFault::NotEmpty(number) => (12, number),
             AreaFault::Plan(fault) => return fault.into(),
