@@ -1,3 +1,5 @@
 pub mod State
 pub mod Answers
 pub mod Core
+pub mod Made
+pub mod Chains

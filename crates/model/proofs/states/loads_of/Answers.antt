@@ -1,14 +1,8 @@
-use Rattle.std.proofs.Common.{arith}
-use Rattle.model.proofs.State.{filled_none, told_more, told_all}
+use Rattle.std.proofs.Common.{rules}
+use Rattle.model.proofs.Made.{told_made}
 use Rattle.model.proofs.states.loads_of.Goals as goal
-
-pub loop-k-init : goal.loop-k-init
-loop-k-init g c = filled_none _
-
-pub loop-k-preserved : goal.loop-k-preserved
-loop-k-preserved g c = told_more (g.M.Model.meaning c.args.model.now).loads c.loop-k.k c.loop-k.loads c.load_after.result (omega arith) c.load_after.ensures c.loop-k.invariant
 
 pub returns : goal.returns
 returns g c =
     let m = c.args.model.now in
-    told_all (g.M.Model.meaning m).loads c.loop-k.k c.loop-k.loads (g.met.M.Model.lawful m).whole_loads (omega arith) c.loop-k.invariant
+    told_made _ (g.M.Model.meaning m).loads _ (λ i y q call. (search rules, search rules)) c.from_fn.result (g.met.M.Model.lawful m).whole_loads c.from_fn.ensures.items
