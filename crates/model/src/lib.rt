@@ -1,5 +1,6 @@
 // Models: what steps a state of queues by a row of signal modes and by arrivals.
 // A state is sixty-four numbers, one for each place; a row is thirty-two modes, one for each signal.
+// Both are arrays with zeros beyond the last place or signal, since a step allocates nothing.
 // Places and signals are numbered from 1, and a question out of range answers 0.
 #![tactic(auto)]
 
@@ -17,6 +18,7 @@ pub enum Cause {
 }
 
 // What a step says: every place is clear, or the lowest held place with its cause.
+// An enum of its own, since `None` would read as no answer where every place was found clear.
 #[derive(Clone, Copy, PartialEq, Eq, Debug)]
 pub enum Answer {
     Clear,

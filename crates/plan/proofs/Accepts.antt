@@ -1,5 +1,5 @@
 -- The check accepts exactly where each row of the heaviest run passes and its end is at or below the start.
-use Rattle.std.proofs.Common.{◌≡◌, ℕ, ◌+◌, ◌<◌, ◌≤◌, List, [], ◌∷◌, length, get_or, take, drop, is_ok, Some, None, Ok, Err, Decides, Option, Result, sym, refl, ap, ◌∙◌, arith, length-take-le, get_or-take}
+use Rattle.std.proofs.Common.{◌≡◌, ℕ, ◌+◌, ◌<◌, ◌≤◌, List, [], ◌∷◌, length, get_or, drop, is_ok, Some, None, Ok, Err, Decides, Option, Result, sym, refl, ap, ◌∙◌, arith}
 use Rattle.std.proofs.lemmas.List.{at_drop_more, at_drop_all}
 use Rattle.refusal.specs.declared.Refusal.{Refusal}
 use Rattle.refusal.specs.Questions.{Told, then, told_by}
@@ -78,21 +78,19 @@ module _ (m : Meaning) (ls : List Limit) where
       then_ok (λ x. ask_end (length rs) (lowest_above x start)) (rows_pass 0 start rs h.0)
       ∙ ap (ask_end (length rs)) (below_none (round_end m start rs) start h.1)
 
-  -- one row further along the first rows of a table
-  module _ (table : List (List ℕ)) (count : ℕ) (size : count ≤ length table) (n : ℕ) (x : List ℕ) where
-    opened : n < count → check_rows m ls n x (drop n (take count table)) ≡ then (check_row m ls n (get_or table n []) x) (λ z. check_rows m ls (n + 1) z (drop (n + 1) (take count table)))
-    opened h =
-        at_drop_more (check_rows m ls n x) (take count table) n [] (omega (arith, length-take-le count table size))
-        ∙ ap (λ r. then (check_row m ls n r x) (λ z. check_rows m ls (n + 1) z (drop (n + 1) (take count table)))) (get_or-take count table n [] h)
+  -- one row further along the rows
+  module _ (rs : List (List ℕ)) (n : ℕ) (x : List ℕ) where
+    opened : n < length rs → check_rows m ls n x (drop n rs) ≡ then (check_row m ls n (get_or rs n []) x) (λ z. check_rows m ls (n + 1) z (drop (n + 1) rs))
+    opened h = at_drop_more (check_rows m ls n x) rs n [] h
 
-    pub rows_more : n < count → (y : List ℕ) → Ok y ≡ check_row m ls n (get_or table n []) x → check_rows m ls n x (drop n (take count table)) ≡ check_rows m ls (n + 1) y (drop (n + 1) (take count table))
-    rows_more h y e = opened h ∙ then_ok (λ z. check_rows m ls (n + 1) z (drop (n + 1) (take count table))) (sym e)
+    pub rows_more : n < length rs → (y : List ℕ) → Ok y ≡ check_row m ls n (get_or rs n []) x → check_rows m ls n x (drop n rs) ≡ check_rows m ls (n + 1) y (drop (n + 1) rs)
+    rows_more h y e = opened h ∙ then_ok (λ z. check_rows m ls (n + 1) z (drop (n + 1) rs)) (sym e)
 
-    pub rows_stop : n < count → (d : Refusal) → Err d ≡ check_row m ls n (get_or table n []) x → check_rows m ls n x (drop n (take count table)) ≡ Err d
-    rows_stop h d e = opened h ∙ then_err (λ z. check_rows m ls (n + 1) z (drop (n + 1) (take count table))) (sym e)
+    pub rows_stop : n < length rs → (d : Refusal) → Err d ≡ check_row m ls n (get_or rs n []) x → check_rows m ls n x (drop n rs) ≡ Err d
+    rows_stop h d e = opened h ∙ then_err (λ z. check_rows m ls (n + 1) z (drop (n + 1) rs)) (sym e)
 
-    pub rows_done : count ≤ n → check_rows m ls n x (drop n (take count table)) ≡ Ok x
-    rows_done h = at_drop_all (check_rows m ls n x) (take count table) n (omega (arith, length-take-le count table size))
+    pub rows_done : length rs ≤ n → check_rows m ls n x (drop n rs) ≡ Ok x
+    rows_done h = at_drop_all (check_rows m ls n x) rs n h
 
 -- an answer that tells what is checked decides what the check decides
 pub told_decides : {F : Type 0} (number : F → Refusal) (r : Result ℕ F) (c : Told ℕ) (P : Type 0) → told_by number r ≡ c → ((k : ℕ) → c ≡ Ok k → P) → (P → (k : ℕ) × (c ≡ Ok k)) → Decides (is_ok r) P

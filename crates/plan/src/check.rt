@@ -1,6 +1,6 @@
 // The check of a plan: its heaviest run, one round from the start under the greatest arrivals.
 // It is one text for every model.
-ghost use Rattle.std.specs.Prelude.{◌≡◌, ◌≤◌, take};
+ghost use Rattle.std.specs.Prelude.{◌≡◌};
 ghost use Rattle.refusal.specs.Questions.{told_by};
 ghost use Rattle.model.specs.State.{lowest_above};
 ghost use Rattle.plan.specs.Faults.{check_refusal};
@@ -10,19 +10,8 @@ ghost use Rattle.plan.specs.Accepts.{Checked};
 use crate::fault::CheckFault;
 use crate::limits::{Limit, first_broken};
 use crate::plan::Plan;
-use model::states::lowest_place_above;
+use model::states::{loads_of, lowest_place_above};
 use model::{Answer, Cause, Model};
-
-// The greatest arrivals at each place.
-fn greatest_arrivals<M: Model>(model: &M) -> [u32; 64]
-    ensures { result ≡ (M.Model.meaning model.now).loads }
-{
-    let mut loads = [0; 64];
-    for k in 0..64 {
-        loads[k] = model.load(k + 1);
-    }
-    loads
-}
 
 // The state after row n, or why that row is turned down.
 fn pass_row<M: Model>(
@@ -57,29 +46,15 @@ fn pass_end(count: usize, state: &[u32; 64], start: &[u32; 64]) -> Result<usize,
     }
 }
 
-// The check of so many rows of a table from a start.
-fn check_rows<M: Model>(
-    model: &M,
-    limits: &[Limit],
-    start: &[u32; 64],
-    rows: &[[u8; 32]; 64],
-    count: usize,
-) -> Result<usize, CheckFault>
-    requires some { 1 ≤ count }
-    requires few { count ≤ 64 }
-    ensures { Checked (M.Model.meaning model.now) limits.now start.now (take count rows.now) result }
-{
-    let loads = greatest_arrivals(model);
-    let mut state = *start;
-    for n in 0..count {
-        state = pass_row(model, limits, n, rows[n], state, loads)?;
-    }
-    pass_end(count, &state, start)
-}
-
 // The count of the plan's rows, or the first no along its heaviest run.
 pub fn check<M: Model>(model: &M, limits: &[Limit], plan: &Plan) -> Result<usize, CheckFault>
     ensures { Checked (M.Model.meaning model.now) limits.now plan.now.start (rows_of plan.now) result }
 {
-    check_rows(model, limits, &plan.start, &plan.rows, plan.count)
+    let rows = plan.rows();
+    let loads = loads_of(model);
+    let mut state = plan.start;
+    for (n, row) in rows.iter().enumerate() {
+        state = pass_row(model, limits, n, *row, state, loads)?;
+    }
+    pass_end(rows.len(), &state, &plan.start)
 }

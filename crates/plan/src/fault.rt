@@ -16,11 +16,12 @@ pub enum CheckFault {
     EndAbove(usize, usize),
 }
 
-impl CheckFault {
-    pub fn refusal(self) -> Refusal
-        ensures { result ≡ check_refusal self }
-    {
-        let (number, a, b) = match self {
+// The number of the question that was answered no, and its two places.
+impl From<CheckFault> for Refusal {
+    ghost from_gives = { λ e r. r ≡ check_refusal e };
+
+    fn from(fault: CheckFault) -> Refusal {
+        let (number, a, b) = match fault {
             CheckFault::LimitBroken(row, limit) => (13, row, limit),
             CheckFault::Blocked(row, place) => (14, row, place),
             CheckFault::Overflow(row, place) => (15, row, place),

@@ -12,6 +12,7 @@ pub struct Term {
 }
 
 // A bound on the sum of weight × value over the terms; the table has zeros beyond the last term.
+// A table with a count, since a limit is copied where it is read and lists of limits stay one block.
 #[derive(Clone, Copy)]
 pub struct Limit {
     pub bound: u32,
@@ -27,31 +28,25 @@ impl Term {
     }
 }
 
-// The sum of weight × value over the terms.
-fn sum(terms: &[Term; 8], state: &[u32; 64]) -> u128
-    ensures { result ≡ total state.now terms.now }
-{
-    let mut sum = 0;
-    for t in terms {
-        sum += u128::from(t.weigh(state));
+impl Limit {
+    // The sum of weight × value over the terms.
+    fn sum(&self, state: &[u32; 64]) -> u128
+        ensures { result ≡ total state.now self.now.terms }
+    {
+        self.terms.iter().map(|t| u128::from(t.weigh(state))).sum()
     }
-    sum
-}
 
-fn is_broken(limit: &Limit, state: &[u32; 64]) -> bool
-    ensures { result ≡ nat_lt limit.now.bound (total state.now limit.now.terms) }
-{
-    sum(&limit.terms, state) > u128::from(limit.bound)
+    fn is_broken(&self, state: &[u32; 64]) -> bool
+        ensures { result ≡ nat_lt self.now.bound (total state.now self.now.terms) }
+    {
+        self.sum(state) > u128::from(self.bound)
+    }
 }
 
 // The number of the first limit, counted from 1, that the state does not keep.
 pub fn first_broken(limits: &[Limit], state: &[u32; 64]) -> Option<usize>
     ensures { result ≡ first_broken limits.now state.now }
 {
-    for (i, limit) in limits.iter().enumerate() {
-        if is_broken(limit, state) {
-            return Some(i + 1);
-        }
-    }
-    None
+    let broken = limits.iter().position(|limit| limit.is_broken(state));
+    broken.map(|k| k + 1)
 }

@@ -1,36 +1,28 @@
 // The rows of a plan.
-ghost use Rattle.std.specs.Prelude.{◌≡◌, length, take, slice_index_or};
+ghost use Rattle.std.specs.Prelude.{◌≡◌, length, slice_index_or};
 ghost use Rattle.plan.specs.Check.{rows_of};
 
 use crate::plan::Plan;
 
-fn count_in(rows: &[[u8; 32]; 64], count: usize) -> usize
-    ensures { result ≡ length (take count rows.now) }
-{
-    count.min(rows.len())
-}
-
-fn row_in(rows: &[[u8; 32]; 64], count: usize, n: usize, other: [u8; 32]) -> [u8; 32]
-    ensures { result ≡ slice_index_or (take count rows.now) n other }
-{
-    if n >= count || n >= 64 {
-        return other;
-    }
-    rows[n]
-}
-
 impl Plan {
+    // Its rows, from row 0 to the last.
+    pub fn rows(&self) -> &[[u8; 32]]
+        ensures { result.now ≡ rows_of self.now }
+    {
+        &self.rows[..self.count]
+    }
+
     // How many rows it has.
     pub fn length(&self) -> usize
         ensures { result ≡ length (rows_of self.now) }
     {
-        count_in(&self.rows, self.count)
+        self.rows().len()
     }
 
     // Row n, or another row past the last.
     pub fn row_or(&self, n: usize, other: [u8; 32]) -> [u8; 32]
         ensures { result ≡ slice_index_or (rows_of self.now) n other }
     {
-        row_in(&self.rows, self.count, n, other)
+        self.rows().get(n).copied().unwrap_or(other)
     }
 }

@@ -1,13 +1,12 @@
-use Rattle.std.proofs.Common.{sym, ◌∙◌, arith}
-use Rattle.plan.specs.Limits.{no_limit}
-use Rattle.plan.proofs.Keeping.{broken_here, broken_more, broken_done}
+use Rattle.std.proofs.Common.{◌≡◌, ltb, true, false, rules, tests, ◌∙◌}
+use Rattle.std.proofs.lemmas.Iterator.{IsFirst-from_position, YieldsList-from_slice}
+use Rattle.plan.specs.Limits.{total}
+use Rattle.plan.proofs.Keeping.{first_found}
 use Rattle.plan.proofs.limits.first_broken.Goals as goal
 
-pub returns-then-is_broken : goal.returns-then-is_broken
-returns-then-is_broken c = sym (broken_here c.args.limits.now c.args.state.now c.loop-i.i no_limit (omega arith) c.if-is_broken.ensures) ∙ c.loop-i.invariant
-
-pub loop-i-preserved : goal.loop-i-preserved
-loop-i-preserved c = sym (broken_more c.args.limits.now c.args.state.now c.loop-i.i no_limit (omega arith) c.if-is_broken.ensures) ∙ c.loop-i.invariant
-
 pub returns : goal.returns
-returns c = sym (broken_done c.args.limits.now c.args.state.now c.loop-i.i (omega arith)) ∙ c.loop-i.invariant
+returns c =
+    let x = c.args.state.now in
+    search rules
+    ∙ first_found c.args.limits.now x c.position-broken.result
+    (IsFirst-from_position c.position-broken.new.self _ c.position-broken.result (λ l. ltb l.bound (total x l.terms) ≡ true) (λ l. ltb l.bound (total x l.terms) ≡ false) c.position-broken.ensures.ran (YieldsList-from_slice c.args.limits.now cc) (λ l q k. search (rules, tests)) (λ l q k. search (rules, tests)))
