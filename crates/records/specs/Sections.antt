@@ -1,9 +1,10 @@
 -- Sections of a sheet: a section word, a count in its range, and as many records, each read beside those before it.
-use Rattle.std.specs.Prelude.{◌≡◌, ℕ, ◌≤◌, ◌⊎◌, List, [], ◌∷◌, ◌++◌, length, Ok, Err, vec_items, decimal, Result, alloc_error}
+use Rattle.std.specs.Prelude.{◌≡◌, ℕ, ◌≤◌, min, ◌⊎◌, List, [], ◌∷◌, ◌++◌, length, replicate, Ok, Err, vec_items, decimal, Result, alloc_error}
 use Rattle.refusal.specs.Questions.{Told, then, turns}
 use Rattle.words.specs.Faults.{sheet_refusal}
 use Rattle.words.specs.Numbers.{number_at, section_at}
 use Rattle.words.specs.Spelling.{Next}
+use Rattle.words.specs.Tables.{written}
 use Rattle.words.specs.declared.recorded.Recorded.{Recorded}
 use Rattle.records.specs.declared.Listed.{Listed}
 use Rattle.records.specs.declared.fault.ModelFault.{ModelFault}
@@ -12,6 +13,10 @@ use Rattle.records.specs.declared.fault.ModelFault.TheVariants.{Sheet, Memory}
 -- a reader of one record: from a place on, beside those before it
 abbrev pub Reader : Type 0 → Type 0
 Reader A = ℕ → List A → Told (Recorded A)
+
+-- a number up to `high`
+abbrev pub up_to : List ℕ → ℕ → Reader ℕ
+up_to bs high at before = then (number_at bs at 0 high) (λ n. Ok (record { item = n.value; end = n.end }))
 
 -- what was read, and where it ended
 pub record Items (A : Type 0) : Type 0 where
@@ -25,6 +30,14 @@ next_record read k s = then (read s.end s.items) (λ r. Ok (record { items = s.i
 -- so many records
 abbrev pub records_at : {A : Type 0} → Reader A → ℕ → ℕ → Told (Items A)
 records_at read at count = turns (next_record read) count 0 (record { items = []; end = at })
+
+-- a table of n that begins with these items and holds `rest` beyond them
+abbrev pub table_of : {A : Type 0} → ℕ → A → Items A → Recorded (List A)
+table_of n rest s = record { item = written (replicate n rest) 0 s.items; end = s.end }
+
+-- so many records, but at most n, as such a table
+abbrev pub table_at : {A : Type 0} → Reader A → ℕ → A → ℕ → ℕ → Told (Recorded (List A))
+table_at read n rest at count = then (records_at read at (min count n)) (λ s. Ok (table_of n rest s))
 
 -- a section word, a count from low to high, and so many records
 abbrev pub section_of : {A : Type 0} → Reader A → List ℕ → ℕ → List ℕ → ℕ → ℕ → Told (Items A)

@@ -5,7 +5,7 @@ ghost use Rattle.std.specs.Prelude.{◌≡◌, ℕ, List};
 ghost use Rattle.refusal.specs.Questions.{Told};
 ghost use Rattle.words.specs.Faults.{told};
 ghost use Rattle.words.specs.declared.recorded.Recorded.{Recorded};
-ghost use Rattle.records.specs.Sections.{records_at, section_of, ListedAs};
+ghost use Rattle.records.specs.Sections.{records_at, table_at, section_of, ListedAs};
 
 use std::alloc::Global;
 use words::fault::SheetFault;
@@ -13,6 +13,7 @@ use words::number::{number, section};
 use words::recorded::Recorded;
 
 pub mod fault;
+pub mod number;
 
 use fault::ModelFault;
 
@@ -50,13 +51,32 @@ fn read_records<R: Record>(
 {
     let mut items = Vec::new(heap);
     let mut end = at;
-    for k in 0..count {
-        let read = kind.read(bytes, end, items.as_slice())?;
-        let item = read.item;
-        items.push(item)?;
+    for _ in 0..count {
+        let read = kind.read(bytes, end, &items)?;
+        items.push(read.item)?;
         end = read.end;
     }
     Ok(Listed { items, end })
+}
+
+// So many records, but at most N, as a table; beyond the last of them it holds `rest`.
+pub fn read_table<R: Record, const N: usize>(
+    kind: &R,
+    bytes: &[u8],
+    at: usize,
+    count: usize,
+    rest: R::Item,
+) -> Result<Recorded<[R::Item; N]>, SheetFault>
+    ensures { told result ≡ table_at (R.Record.reads kind.now bytes.now) N rest at count }
+{
+    let mut table = [rest; N];
+    let mut end = at;
+    for k in 0..count.min(N) {
+        let read = kind.read(bytes, end, &table[..k])?;
+        table[k] = read.item;
+        end = read.end;
+    }
+    Ok(Recorded { item: table, end })
 }
 
 // A whole section: its word, its count from `low` to `high`, and its records.

@@ -9,6 +9,13 @@ written_more xs vs i d h = at_drop_more (written xs i) vs i d h
 pub written_all : {A : Type 0} (xs vs : List A) (i : ℕ) → length vs ≤ i → written xs i (drop i vs) ≡ xs
 written_all xs vs i h = at_drop_all (written xs i) vs i h
 
+-- one value more
+pub written_push : {A : Type 0} (xs vs : List A) (i : ℕ) (v : A) → written xs i (vs ++ (v ∷ [])) ≡ set (written xs i vs) (i + length vs) v
+written_push xs [] i v = let e : i ≡ i + 0 = omega arith in ap (λ k. set xs k v) e
+written_push xs (u ∷ vs) i v =
+    let e : i + 1 + length vs ≡ i + length (u ∷ vs) = omega arith in
+    written_push (set xs i u) vs (i + 1) v ∙ ap (λ k. set (written (set xs i u) (i + 1) vs) k v) e
+
 -- the front of a table with values written over it
 pub take_written : {A : Type 0} (vs xs : List A) (k : ℕ) → k + length vs ≤ length xs → take (k + length vs) (written xs k vs) ≡ take k xs ++ vs
 take_written [] xs k h = let e : k + 0 ≡ k = omega arith in ap (λ n. take n xs) e ∙ sym (append-nil (take k xs))
