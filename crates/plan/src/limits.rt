@@ -12,7 +12,7 @@ pub struct Term {
 }
 
 // A bound on the sum of weight × value over the terms; the table has zeros beyond the last term.
-// A table with a count, since a limit is copied where it is read and lists of limits stay one block.
+// A table with a count, since reading a record asks for no memory: it says a limit or has a fault of the sheet.
 #[derive(Clone, Copy)]
 pub struct Limit {
     pub bound: u32,
