@@ -9,14 +9,16 @@ use Rattle.records.proofs.Exactness.{section_stands_as, section_reads_as, exactl
 use Rattle.linear.specs.Lines.{Lines}
 use Rattle.limit_sheet.specs.Limits.{limits_section, limit_at, LimitSaid}
 use Rattle.limit_sheet.proofs.Exactness.{limit_exact}
-use Rattle.linear_sheet.specs.declared.read.LinearRead.{LinearRead}
+use Rattle.model_sheet.specs.declared.ModelRead.{ModelRead}
+use Rattle.model_sheet.specs.Content.{Content}
+use Rattle.linear.specs.declared.linear.Linear.{Linear}
 use Rattle.linear_sheet.specs.Places.{place_at, entry_at, entry_count, PlaceSaid, EntrySaid}
-use Rattle.linear_sheet.specs.Linear.{modes_section, places_section, entries_section, Content, content, sections, linear_sheet}
+use Rattle.linear_sheet.specs.Linear.{modes_section, places_section, entries_section, content, sections, linear_sheet}
 use Rattle.linear_sheet.specs.Says.{Says}
 use Rattle.linear_sheet.proofs.PlaceExact.{modes_stand, modes_read, place_exact, entry_exact}
 use Rattle.linear_sheet.proofs.Ranges.{few_entries}
 
-sheet_stands : (bs : List ℕ) (c : Content) → linear_sheet bs ≡ Ok c → Says bs c
+sheet_stands : (bs : List ℕ) (c : Content Lines) → linear_sheet bs ≡ Ok c → Says bs c
 sheet_stands bs c h =
     let whole = then_parts (short_sheet bs) (λ _. sections bs) c h in
     let m = then_parts (modes_section bs 0) _ c whole.2 in
@@ -39,9 +41,9 @@ sheet_stands bs c h =
       limits = four;
     })
 
-sheet_reads : (bs : List ℕ) (c : Content) → Says bs c → linear_sheet bs ≡ Ok c
+sheet_reads : (bs : List ℕ) (c : Content Lines) → Says bs c → linear_sheet bs ≡ Ok c
 sheet_reads bs c s =
-    let n : Lines = c.lines in
+    let n : Lines = c.model in
     let places : ℕ = length n.places in
     let count : ℕ = entry_count n.modes places in
     let few = few_entries n.modes places s.modes.few s.places.few in
@@ -52,5 +54,5 @@ sheet_reads bs c s =
     ∙ then_ok _ (section_reads_as (limit_at bs places) (LimitSaid bs places) (limit_exact bs places (omega (arith, s.places.few))) bs (codes "limits") s.entries_end 0 32 refl (omega arith) c.limits c.end s.limits)
 
 -- the answer that is the definition's is exactly what the sheet says
-pub read_exactly : (bs : List ℕ) (r : Result LinearRead ModelFault) → ToldAs content r (linear_sheet bs) → Exactly content (Says bs) r
+pub read_exactly : (bs : List ℕ) (r : Result (ModelRead Linear) ModelFault) → ToldAs content r (linear_sheet bs) → Exactly content (Says bs) r
 read_exactly bs r is = exactly content (Says bs) (linear_sheet bs) (sheet_stands bs) (sheet_reads bs) r is

@@ -1,16 +1,17 @@
 -- A whole linear model sheet: the sections `modes`, `places`, `entries` and `limits`, one after the other.
-use Rattle.std.specs.Prelude.{ℕ, List, length, Ok, vec_items, codes}
+use Rattle.std.specs.Prelude.{ℕ, List, length, Ok, codes}
 use Rattle.refusal.specs.Questions.{Told, then}
 use Rattle.words.specs.declared.reading.Reading.{Reading}
 use Rattle.words.specs.Words.{short_sheet}
 use Rattle.words.specs.Numbers.{number_at, section_at}
 use Rattle.records.specs.Sections.{Items, section_of}
 use Rattle.linear.specs.declared.place.Place.{Place}
+use Rattle.linear.specs.declared.linear.Linear.{Linear}
 use Rattle.linear.specs.Lines.{Lines}
 use Rattle.linear.specs.Code.{lines}
-use Rattle.plan.specs.declared.limits.Limit.{Limit}
 use Rattle.limit_sheet.specs.Limits.{limits_section}
-use Rattle.linear_sheet.specs.declared.read.LinearRead.{LinearRead}
+use Rattle.model_sheet.specs.declared.ModelRead.{ModelRead}
+use Rattle.model_sheet.specs.Content.{Content, content_by}
 use Rattle.linear_sheet.specs.Places.{place_at, entry_at, entry_count}
 
 -- 1 to 8 modes, and no records
@@ -26,23 +27,17 @@ abbrev pub entries_section : List ℕ → ℕ → ℕ → ℕ → Told (Items �
 entries_section bs modes places at =
     section_of (entry_at bs) bs at (codes "entries") (entry_count modes places) (entry_count modes places)
 
--- what a sheet says, and where its last word ended
-pub record Content : Type 0 where
-  pub lines : Lines
-  pub limits : List Limit
-  pub end : ℕ
-
-abbrev pub sections : List ℕ → Told Content
+abbrev pub sections : List ℕ → Told (Content Lines)
 sections bs =
     then (modes_section bs 0) (λ modes.
     then (places_section bs modes.end) (λ places.
     then (entries_section bs modes.value (length places.items) places.end) (λ entries.
     then (limits_section bs (length places.items) entries.end) (λ limits.
-    Ok (record { lines = record { modes = modes.value; places = places.items; entries = entries.items }; limits = limits.items; end = limits.end })))))
+    Ok (record { model = record { modes = modes.value; places = places.items; entries = entries.items }; limits = limits.items; end = limits.end })))))
 
 -- the length of the sheet first, then its words
-abbrev pub linear_sheet : List ℕ → Told Content
+abbrev pub linear_sheet : List ℕ → Told (Content Lines)
 linear_sheet bs = then (short_sheet bs) (λ _. sections bs)
 
-abbrev pub content : LinearRead → Content
-content v = record { lines = lines v.model; limits = vec_items v.limits; end = v.end }
+abbrev pub content : ModelRead Linear → Content Lines
+content = content_by lines

@@ -4,7 +4,8 @@ use Rattle.words.specs.Spelling.{Next}
 use Rattle.records.specs.Sections.{Section}
 use Rattle.limit_sheet.specs.Limits.{LimitSaid}
 use Rattle.linear_sheet.specs.Places.{PlaceSaid, EntrySaid, entry_count}
-use Rattle.linear_sheet.specs.Linear.{Content}
+use Rattle.model_sheet.specs.Content.{Content}
+use Rattle.linear.specs.Lines.{Lines}
 
 -- the section of the modes stands from place `at` on and ends at `to`: its word and their count
 pub record ModesSaid (bs : List ℕ) (at modes to : ℕ) : Type 0 where
@@ -15,12 +16,12 @@ pub record ModesSaid (bs : List ℕ) (at modes to : ℕ) : Type 0 where
   pub few : modes ≤ 8
 
 -- a sheet of at most 65,535 bytes whose words, up to its end, are those of the linear model and the limits
-pub record Says (bs : List ℕ) (c : Content) : Type 0 where
+pub record Says (bs : List ℕ) (c : Content Lines) : Type 0 where
   pub short : length bs ≤ 65535
   pub modes_end : ℕ
   pub places_end : ℕ
   pub entries_end : ℕ
-  pub modes : ModesSaid bs 0 c.lines.modes modes_end
-  pub places : Section (PlaceSaid bs) bs modes_end (codes "places") 1 16 c.lines.places places_end
-  pub entries : Section (EntrySaid bs) bs places_end (codes "entries") (entry_count c.lines.modes (length c.lines.places)) (entry_count c.lines.modes (length c.lines.places)) c.lines.entries entries_end
-  pub limits : Section (LimitSaid bs (length c.lines.places)) bs entries_end (codes "limits") 0 32 c.limits c.end
+  pub modes : ModesSaid bs 0 c.model.modes modes_end
+  pub places : Section (PlaceSaid bs) bs modes_end (codes "places") 1 16 c.model.places places_end
+  pub entries : Section (EntrySaid bs) bs places_end (codes "entries") (entry_count c.model.modes (length c.model.places)) (entry_count c.model.modes (length c.model.places)) c.model.entries entries_end
+  pub limits : Section (LimitSaid bs (length c.model.places)) bs entries_end (codes "limits") 0 32 c.limits c.end

@@ -2,6 +2,8 @@
 ghost use Rattle.std.specs.Prelude.{◌≡◌, ◌≤◌, IfOk};
 ghost use Rattle.words.specs.Faults.{told};
 ghost use Rattle.records.specs.Sections.{ToldAs, ListedAs, Exactly};
+ghost use Rattle.linear.specs.Lines.{linear};
+ghost use Rattle.model_sheet.specs.Content.{told_meant, Means};
 ghost use Rattle.linear_sheet.specs.Linear.{modes_section, places_section, entries_section, sections, linear_sheet, content};
 ghost use Rattle.linear_sheet.specs.Says.{Says};
 
@@ -9,7 +11,7 @@ use crate::place::{EntryRecord, PlaceRecord};
 use limit_sheet::read_limits;
 use linear::linear::Linear;
 use linear::place::Place;
-use plan::limits::Limit;
+use model_sheet::{ModelRead, ModelSheet};
 use records::fault::ModelFault;
 use records::{Listed, read_section};
 use std::alloc::Global;
@@ -17,14 +19,6 @@ use words::fault::SheetFault;
 use words::number::{number, section};
 use words::reading::Reading;
 use words::word::short_enough;
-
-// A linear model and the limits of its sheet, and where the last word ended.
-#[derive(Drop)]
-pub struct LinearRead {
-    pub model: Linear,
-    pub limits: Vec<Limit>,
-    pub end: usize,
-}
 
 // 1 to 8 modes: a section with no records.
 fn modes_section(bytes: &[u8], at: usize) -> Result<Reading<u32>, SheetFault>
@@ -58,7 +52,7 @@ fn entries_section(
 }
 
 // The four sections, one after the other.
-fn read_sections(heap: Global, bytes: &[u8]) -> Result<LinearRead, ModelFault>
+fn read_sections(heap: Global, bytes: &[u8]) -> Result<ModelRead<Linear>, ModelFault>
     ensures { ToldAs content result (sections bytes.now) }
 {
     let modes = modes_section(bytes, 0)?;
@@ -71,7 +65,7 @@ fn read_sections(heap: Global, bytes: &[u8]) -> Result<LinearRead, ModelFault>
         places: places.items,
         entries: entries.items,
     };
-    Ok(LinearRead {
+    Ok(ModelRead {
         model,
         limits: limits.items,
         end: limits.end,
@@ -79,10 +73,25 @@ fn read_sections(heap: Global, bytes: &[u8]) -> Result<LinearRead, ModelFault>
 }
 
 // The linear model and the limits that a sheet says.
-pub fn read_linear(heap: Global, bytes: &[u8]) -> Result<LinearRead, ModelFault>
+pub fn read_linear(heap: Global, bytes: &[u8]) -> Result<ModelRead<Linear>, ModelFault>
     ensures is { ToldAs content result (linear_sheet bytes.now) }
     ensures exact { Exactly content (Says bytes.now) result }
 {
     short_enough(bytes)?;
     read_sections(heap, bytes)
+}
+
+// The kind of model sheet that says a linear model.
+pub struct LinearSheet;
+
+impl ModelSheet for LinearSheet {
+    type Made = Linear;
+
+    ghost sheet = { λ bs. told_meant linear (linear_sheet bs) };
+
+    ghost says = { λ bs. Means linear (Says bs) };
+
+    fn read(heap: Global, bytes: &[u8]) -> Result<ModelRead<Linear>, ModelFault> {
+        read_linear(heap, bytes)
+    }
 }

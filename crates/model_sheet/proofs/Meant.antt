@@ -1,6 +1,6 @@
 -- A sheet that is read exactly is read exactly by what its model means.
-use Rattle.std.proofs.Common.{◌≡◌, Ok, Err, Result, sym, refl, ap, ◌∙◌, subst, inl, inr, ⊎_elim}
-use Rattle.refusal.specs.Questions.{Told, then}
+use Rattle.std.proofs.Common.{Ok, Err, Result, sym, refl, ap, ◌∙◌, subst, inl, inr, ⊎_elim}
+use Rattle.refusal.specs.Questions.{Told}
 use Rattle.records.specs.declared.fault.ModelFault.{ModelFault}
 use Rattle.records.specs.declared.fault.ModelFault.TheVariants.{Sheet, Memory}
 use Rattle.records.specs.Sections.{ToldAs, ReadAs, Exactly}

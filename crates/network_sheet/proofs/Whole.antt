@@ -9,15 +9,17 @@ use Rattle.records.proofs.Exactness.{section_stands_as, section_reads_as, exactl
 use Rattle.network.specs.Network.{Roads}
 use Rattle.limit_sheet.specs.Limits.{limits_section, limit_at, LimitSaid}
 use Rattle.limit_sheet.proofs.Exactness.{limit_exact}
-use Rattle.network_sheet.specs.declared.read.NetworkRead.{NetworkRead}
+use Rattle.model_sheet.specs.declared.ModelRead.{ModelRead}
+use Rattle.model_sheet.specs.Content.{Content}
+use Rattle.network.specs.declared.network.Network.{Network}
 use Rattle.network_sheet.specs.Links.{signal_at, link_at, SignalSaid, LinkSaid}
 use Rattle.network_sheet.specs.Turns.{turn_at, TurnSaid}
-use Rattle.network_sheet.specs.Network.{signals_section, links_section, turns_section, Content, content, sections, network_sheet}
+use Rattle.network_sheet.specs.Network.{signals_section, links_section, turns_section, content, sections, network_sheet}
 use Rattle.network_sheet.specs.Says.{Says}
 use Rattle.network_sheet.proofs.LinkExact.{signal_exact, link_exact}
 use Rattle.network_sheet.proofs.TurnExact.{turn_exact}
 
-sheet_stands : (bs : List ℕ) (c : Content) → network_sheet bs ≡ Ok c → Says bs c
+sheet_stands : (bs : List ℕ) (c : Content Roads) → network_sheet bs ≡ Ok c → Says bs c
 sheet_stands bs c h =
     let whole = then_parts (short_sheet bs) (λ _. sections bs) c h in
     let p = then_parts (signals_section bs 0) _ c whole.2 in
@@ -41,9 +43,9 @@ sheet_stands bs c h =
       limits = four;
     })
 
-sheet_reads : (bs : List ℕ) (c : Content) → Says bs c → network_sheet bs ≡ Ok c
+sheet_reads : (bs : List ℕ) (c : Content Roads) → Says bs c → network_sheet bs ≡ Ok c
 sheet_reads bs c s =
-    let n : Roads = c.roads in
+    let n : Roads = c.model in
     let signals : ℕ = length n.phases in
     let places : ℕ = length n.links in
     then_ok _ (short_read bs s.short)
@@ -53,5 +55,5 @@ sheet_reads bs c s =
     ∙ then_ok _ (section_reads_as (limit_at bs places) (LimitSaid bs places) (limit_exact bs places s.links.few) bs (codes "limits") s.turns_end 0 32 refl (omega arith) c.limits c.end s.limits)
 
 -- the answer that is the definition's is exactly what the sheet says
-pub read_exactly : (bs : List ℕ) (r : Result NetworkRead ModelFault) → ToldAs content r (network_sheet bs) → Exactly content (Says bs) r
+pub read_exactly : (bs : List ℕ) (r : Result (ModelRead Network) ModelFault) → ToldAs content r (network_sheet bs) → Exactly content (Says bs) r
 read_exactly bs r is = exactly content (Says bs) (network_sheet bs) (sheet_stands bs) (sheet_reads bs) r is

@@ -2,12 +2,15 @@
 ghost use Rattle.std.specs.Prelude.{◌≤◌, length};
 ghost use Rattle.limit_sheet.specs.Limits.{limits_section};
 ghost use Rattle.records.specs.Sections.{ToldAs, ListedAs, Exactly};
+ghost use Rattle.model_sheet.specs.Content.{told_meant, Means};
+ghost use Rattle.network.specs.Network.{network};
 ghost use Rattle.network_sheet.specs.Network.{signals_section, links_section, turns_section, sections, network_sheet, content};
 ghost use Rattle.network_sheet.specs.Says.{Says};
 
 use crate::link::{LinkRecord, SignalRecord};
 use crate::turn::TurnRecord;
 use limit_sheet::read_limits;
+use model_sheet::{ModelRead, ModelSheet};
 use network::links::{Link, Turn};
 use network::network::Network;
 use plan::limits::Limit;
@@ -15,14 +18,6 @@ use records::fault::ModelFault;
 use records::{Listed, read_section};
 use std::alloc::Global;
 use words::word::short_enough;
-
-// A network and the limits of its sheet, and where the last word ended.
-#[derive(Drop)]
-pub struct NetworkRead {
-    pub network: Network,
-    pub limits: Vec<Limit>,
-    pub end: usize,
-}
 
 // 1 to 32 junctions.
 fn signals_section(heap: Global, bytes: &[u8], at: usize) -> Result<Listed<u8>, ModelFault>
@@ -79,30 +74,45 @@ fn limits_section(
 }
 
 // The four sections, one after the other.
-fn read_sections(heap: Global, bytes: &[u8]) -> Result<NetworkRead, ModelFault>
+fn read_sections(heap: Global, bytes: &[u8]) -> Result<ModelRead<Network>, ModelFault>
     ensures { ToldAs content result (sections bytes.now) }
 {
     let signals = signals_section(heap, bytes, 0)?;
     let links = links_section(heap, bytes, signals.end, signals.items.as_slice())?;
     let turns = turns_section(heap, bytes, links.end, links.items.as_slice())?;
     let limits = limits_section(heap, bytes, turns.end, links.items.as_slice())?;
-    let network = Network {
+    let model = Network {
         phases: signals.items,
         links: links.items,
         turns: turns.items,
     };
-    Ok(NetworkRead {
-        network,
+    Ok(ModelRead {
+        model,
         limits: limits.items,
         end: limits.end,
     })
 }
 
 // The network and the limits that a sheet says.
-pub fn read_network(heap: Global, bytes: &[u8]) -> Result<NetworkRead, ModelFault>
+pub fn read_network(heap: Global, bytes: &[u8]) -> Result<ModelRead<Network>, ModelFault>
     ensures is { ToldAs content result (network_sheet bytes.now) }
     ensures exact { Exactly content (Says bytes.now) result }
 {
     short_enough(bytes)?;
     read_sections(heap, bytes)
+}
+
+// The kind of model sheet that says a network.
+pub struct NetworkSheet;
+
+impl ModelSheet for NetworkSheet {
+    type Made = Network;
+
+    ghost sheet = { λ bs. told_meant network (network_sheet bs) };
+
+    ghost says = { λ bs. Means network (Says bs) };
+
+    fn read(heap: Global, bytes: &[u8]) -> Result<ModelRead<Network>, ModelFault> {
+        read_network(heap, bytes)
+    }
 }

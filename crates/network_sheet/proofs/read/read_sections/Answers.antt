@@ -17,8 +17,8 @@ limits_section-requires c =
     let l = links_ok c.args.bytes.now c.in_ok-signals.ensures c.as_slice.ensures.value c.in_ok-links.ensures in
     omega (arith, l.1, ap length c.as_slice-3.ensures.value)
 
-pub invariant_of-network : goal.invariant_of-network
-invariant_of-network c =
+pub invariant_of-model : goal.invariant_of-model
+invariant_of-model c =
     let p = phases_ok c.args.bytes.now c.in_ok-signals.ensures in
     let l = links_ok c.args.bytes.now c.in_ok-signals.ensures c.as_slice.ensures.value c.in_ok-links.ensures in
     let t = turns_ok c.args.bytes.now c.in_ok-links.links.end c.as_slice-2.ensures.value l.1 c.in_ok-turns.ensures in
