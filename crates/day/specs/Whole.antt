@@ -70,10 +70,10 @@ abbrev pub DayLines : Meaning → List Limit → List ℕ → List ℕ → Type 
 DayLines m ls bs text = After (λ d. Lines m ls bs m.places d.calls (fresh_area m d) None) (day_sheet m bs) text
 
 abbrev pub NetworkDay : List ℕ → List ℕ → Type 0
-NetworkDay bs text = After (λ c. DayLines (network c.roads) c.limits (drop c.end bs)) (network_sheet bs) text
+NetworkDay bs text = After (λ c. DayLines (network c.model) c.limits (drop c.end bs)) (network_sheet bs) text
 
 abbrev pub LinearDay : List ℕ → List ℕ → Type 0
-LinearDay bs text = After (λ c. DayLines (linear c.lines) c.limits (drop c.end bs)) (linear_sheet bs) text
+LinearDay bs text = After (λ c. DayLines (linear c.model) c.limits (drop c.end bs)) (linear_sheet bs) text
 
 -- the first word tells the model
 abbrev pub begins_linear : List ℕ → Bool

@@ -10,9 +10,10 @@ use crate::read::read_day;
 use crate::rest::rest_of;
 use crate::run::{Done, Ran, close, run_call};
 use area::area::{Area, Duty};
-use linear_sheet::read::{LinearRead, read_linear};
+use linear_sheet::read::read_linear;
 use model::Model;
-use network_sheet::read::{NetworkRead, read_network};
+use model_sheet::ModelRead;
+use network_sheet::read::read_network;
 use plan::limits::Limit;
 use records::fault::ModelFault;
 use std::alloc::{AllocError, Global};
@@ -107,13 +108,7 @@ fn network_day(heap: Global, input: &[u8]) -> Result<String, AllocError>
     ensures { IfOk result (λ s. NetworkDay input.now (string_bytes s)) }
 {
     match read_network(heap, input) {
-        Ok(
-            NetworkRead {
-                network,
-                limits,
-                end,
-            },
-        ) => run_sheet(heap, network, limits, rest_of(input, end)),
+        Ok(ModelRead { model, limits, end }) => run_sheet(heap, model, limits, rest_of(input, end)),
         Err(why) => fault_line(heap, why),
     }
 }
@@ -122,12 +117,7 @@ fn linear_day(heap: Global, input: &[u8]) -> Result<String, AllocError>
     ensures { IfOk result (λ s. LinearDay input.now (string_bytes s)) }
 {
     match read_linear(heap, input) {
-        Ok(LinearRead { model, limits, end }) => run_sheet(
-            heap,
-            model,
-            limits,
-            rest_of(input, end),
-        ),
+        Ok(ModelRead { model, limits, end }) => run_sheet(heap, model, limits, rest_of(input, end)),
         Err(why) => fault_line(heap, why),
     }
 }

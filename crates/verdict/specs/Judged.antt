@@ -7,13 +7,13 @@ use Rattle.words.specs.Numbers.{section_at}
 use Rattle.records.specs.declared.fault.ModelFault.{ModelFault}
 use Rattle.records.specs.declared.fault.ModelFault.TheVariants.{Sheet, Memory}
 use Rattle.model.specs.Model.{Meaning}
-use Rattle.network.specs.Network.{Roads, network}
-use Rattle.linear.specs.Lines.{Lines, linear}
-use Rattle.plan.specs.declared.limits.Limit.{Limit}
+use Rattle.network.specs.Network.{network}
+use Rattle.linear.specs.Lines.{linear}
 use Rattle.plan.specs.Runs.{EveryRunHolds}
 use Rattle.plan_sheet.specs.Plans.{PlanSaid}
 use Rattle.plan_sheet.specs.Says.{Says as SaysPlan}
 use Rattle.plan_sheet.specs.Accepts.{checked_sheet, rows_said}
+use Rattle.model_sheet.specs.Content.{Content, told_meant, Means}
 use Rattle.network_sheet.specs.Network.{network_sheet}
 use Rattle.network_sheet.specs.Says.{Says as SaysNetwork}
 use Rattle.linear_sheet.specs.Linear.{linear_sheet}
@@ -31,11 +31,14 @@ Faulted (Sheet f) r = r ≡ Ok (Refused (sheet_refusal f))
 Faulted (Memory e) r = r ≡ Err e
 
 -- the questions on a model sheet, then those on the plan sheet after it, then those on the plan
+abbrev pub verdict_after : Told (Content Meaning) → List ℕ → Verdict
+verdict_after sheet bs = verdict_of (then sheet (λ c. checked_sheet c.model c.limits (drop c.end bs)))
+
 abbrev pub network_verdict : List ℕ → Verdict
-network_verdict bs = verdict_of (then (network_sheet bs) (λ n. checked_sheet (network n.roads) n.limits (drop n.end bs)))
+network_verdict bs = verdict_after (told_meant network (network_sheet bs)) bs
 
 abbrev pub linear_verdict : List ℕ → Verdict
-linear_verdict bs = verdict_of (then (linear_sheet bs) (λ n. checked_sheet (linear n.lines) n.limits (drop n.end bs)))
+linear_verdict bs = verdict_after (told_meant linear (linear_sheet bs)) bs
 
 -- the first word tells the model
 abbrev pub begins_linear : List ℕ → Bool
@@ -44,33 +47,27 @@ begins_linear bs = is_ok (section_at bs 0 (codes "modes"))
 abbrev pub verdict_on : List ℕ → Verdict
 verdict_on bs = cond (begins_linear bs) (linear_verdict bs) (network_verdict bs)
 
--- the first words say a network, with these limits, up to place `to`; m is what it means
-pub record NetworkSaid (bs : List ℕ) (m : Meaning) (ls : List Limit) (to : ℕ) : Type 0 where
-  pub roads : Roads
-  pub means : m ≡ network roads
-  pub words : SaysNetwork bs (record { roads = roads; limits = ls; end = to })
+-- the first words say a network that means this, with these limits, up to there
+abbrev pub NetworkSaid : List ℕ → Content Meaning → Type 0
+NetworkSaid bs = Means network (SaysNetwork bs)
 
 -- the same of a linear model
-pub record LinearSaid (bs : List ℕ) (m : Meaning) (ls : List Limit) (to : ℕ) : Type 0 where
-  pub lines : Lines
-  pub means : m ≡ linear lines
-  pub words : SaysLinear bs (record { lines = lines; limits = ls; end = to })
+abbrev pub LinearSaid : List ℕ → Content Meaning → Type 0
+LinearSaid bs = Means linear (SaysLinear bs)
 
-abbrev pub ModelSaid : List ℕ → Meaning → List Limit → ℕ → Type 0
-ModelSaid bs m ls to = LinearSaid bs m ls to ⊎ NetworkSaid bs m ls to
+abbrev pub ModelSaid : List ℕ → Content Meaning → Type 0
+ModelSaid bs c = LinearSaid bs c ⊎ NetworkSaid bs c
 
 -- an input that says a model with its limits and then a plan of so many rows whose every one-round run holds
-pub record Holds (Said : Meaning → List Limit → ℕ → Type 0) (bs : List ℕ) (rows : ℕ) : Type 0 where
-  pub meaning : Meaning
-  pub limits : List Limit
-  pub end : ℕ
+pub record Holds (Said : Content Meaning → Type 0) (bs : List ℕ) (rows : ℕ) : Type 0 where
+  pub sheet : Content Meaning
   pub plan : PlanSaid
-  pub says_model : Said meaning limits end
-  pub says_plan : SaysPlan meaning (drop end bs) plan
-  pub every_run : EveryRunHolds meaning limits plan.start (rows_said plan)
+  pub says_model : Said sheet
+  pub says_plan : SaysPlan sheet.model (drop sheet.end bs) plan
+  pub every_run : EveryRunHolds sheet.model sheet.limits plan.start (rows_said plan)
   pub count : plan.count ≡ rows
 
 -- `shelved` with a count of rows is said exactly of such an input
-pub record Right (Said : Meaning → List Limit → ℕ → Type 0) (bs : List ℕ) (v : Verdict) : Type 0 where
+pub record Right (Said : Content Meaning → Type 0) (bs : List ℕ) (v : Verdict) : Type 0 where
   pub only : (rows : ℕ) → v ≡ Shelved rows → Holds Said bs rows
   pub always : (rows : ℕ) → Holds Said bs rows → v ≡ Shelved rows

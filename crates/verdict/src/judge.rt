@@ -1,12 +1,13 @@
 // From the bytes of an input to its verdict.
 ghost use Rattle.std.specs.Prelude.{◌≡◌, drop, IfOk};
 ghost use Rattle.plan_sheet.specs.Accepts.{checked_sheet};
-ghost use Rattle.verdict.specs.Judged.{verdict_of, Faulted, begins_linear, linear_verdict, network_verdict, verdict_on, NetworkSaid, LinearSaid, ModelSaid, Right};
+ghost use Rattle.verdict.specs.Judged.{verdict_of, verdict_after, Faulted, begins_linear, verdict_on, ModelSaid, Right};
 
 use crate::verdict::Verdict;
-use linear_sheet::read::read_linear;
+use linear_sheet::read::LinearSheet;
 use model::Model;
-use network_sheet::read::read_network;
+use model_sheet::ModelSheet;
+use network_sheet::read::NetworkSheet;
 use plan::limits::Limit;
 use plan_sheet::check::check_sheet;
 use records::fault::ModelFault;
@@ -44,27 +45,12 @@ fn judge_fault(why: ModelFault) -> Result<Verdict, AllocError>
     }
 }
 
-// The verdict on an input that holds a network sheet and a plan sheet.
-fn judge_network(heap: Global, input: &[u8]) -> Result<Verdict, AllocError>
-    ensures is { IfOk result (λ v. v ≡ network_verdict input.now) }
-    ensures right { IfOk result (Right (NetworkSaid input.now) input.now) }
+// The verdict on an input that holds a model sheet of this kind and a plan sheet.
+fn judge_model<S: ModelSheet>(heap: Global, input: &[u8]) -> Result<Verdict, AllocError>
+    ensures is { IfOk result (λ v. v ≡ verdict_after (S.sheet input.now) input.now) }
+    ensures right { IfOk result (Right (S.says input.now) input.now) }
 {
-    match read_network(heap, input) {
-        Ok(read) => Ok(judge_plan(
-            &read.network,
-            read.limits.as_slice(),
-            after(input, read.end),
-        )),
-        Err(why) => judge_fault(why),
-    }
-}
-
-// The verdict on an input that holds a linear sheet and a plan sheet.
-fn judge_linear(heap: Global, input: &[u8]) -> Result<Verdict, AllocError>
-    ensures is { IfOk result (λ v. v ≡ linear_verdict input.now) }
-    ensures right { IfOk result (Right (LinearSaid input.now) input.now) }
-{
-    match read_linear(heap, input) {
+    match S::read(heap, input) {
         Ok(read) => Ok(judge_plan(&read.model, read.limits.as_slice(), after(input, read.end))),
         Err(why) => judge_fault(why),
     }
@@ -74,10 +60,7 @@ fn judge_linear(heap: Global, input: &[u8]) -> Result<Verdict, AllocError>
 fn is_linear(input: &[u8]) -> bool
     ensures { result ≡ begins_linear input.now }
 {
-    match section(input, 0, b"modes") {
-        Ok(_) => true,
-        Err(_) => false,
-    }
+    section(input, 0, b"modes").is_ok()
 }
 
 // The verdict on an input: a model sheet, whose first word tells the model, and then, counted from its end, a plan sheet.
@@ -87,8 +70,8 @@ pub fn judge(heap: Global, input: &[u8]) -> Result<Verdict, AllocError>
     ensures right { IfOk result (Right (ModelSaid input.now) input.now) }
 {
     if is_linear(input) {
-        judge_linear(heap, input)
+        judge_model::<LinearSheet>(heap, input)
     } else {
-        judge_network(heap, input)
+        judge_model::<NetworkSheet>(heap, input)
     }
 }

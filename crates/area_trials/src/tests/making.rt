@@ -1,9 +1,10 @@
 // Areas over both streets and both models, made from sheets.
 use area::area::Area;
 use linear::linear::Linear;
-use linear_sheet::read::{LinearRead, read_linear};
+use linear_sheet::read::read_linear;
+use model_sheet::ModelRead;
 use network::network::Network;
-use network_sheet::read::{NetworkRead, read_network};
+use network_sheet::read::read_network;
 use std::alloc::{AllocError, Global};
 use std::test::Fail;
 use street::counted::CountedStreet;
@@ -41,7 +42,7 @@ fn groups_of(heap: Global, given: &[Given]) -> Result<Vec<Group>, AllocError> {
 }
 
 // Two junctions and three links; the one limit has this bound on links 1 and 3 together.
-pub(crate) fn corridor(heap: Global, bound: u32) -> Result<NetworkRead, Fail> {
+pub(crate) fn corridor(heap: Global, bound: u32) -> Result<ModelRead<Network>, Fail> {
     let sheet = format!(in heap;
         "signals 2 2 2 links 3 a 0 1 200 60 20 1 b 1 2 100 50 0 1 c 0 1 200 40 10 2 turns 2 1 2 500 1000 3 2 250 1000 limits 1 {bound} 2 1 1 3 1"
     )?;
@@ -56,12 +57,12 @@ pub(crate) fn heavy_area(
     bound: u32,
     queues: &[u32],
 ) -> Result<Area<HeavyStreet<Network>>, Fail> {
-    let NetworkRead {
-        network,
+    let ModelRead {
+        model,
         limits,
         end: _,
     } = corridor(heap, bound)?;
-    let street = HeavyStreet::new(network, state_of(queues));
+    let street = HeavyStreet::new(model, state_of(queues));
     Ok(Area::new(street, limits, 7))
 }
 
@@ -72,20 +73,20 @@ pub(crate) fn counted_area(
     given: &[Given],
     number: u32,
 ) -> Result<Area<CountedStreet<Network>>, Fail> {
-    let NetworkRead {
-        network,
+    let ModelRead {
+        model,
         limits,
         end: _,
     } = corridor(heap, bound)?;
     let groups = groups_of(heap, given)?;
-    let street = CountedStreet::new(network, state_of(queues), groups.as_slice());
+    let street = CountedStreet::new(model, state_of(queues), groups.as_slice());
     Ok(Area::new(street, limits, number))
 }
 
 pub(crate) fn linear_area(heap: Global, queues: &[u32]) -> Result<Area<HeavyStreet<Linear>>, Fail> {
     match read_linear(heap, TWO_MODES.as_bytes()) {
         Ok(
-            LinearRead {
+            ModelRead {
                 model,
                 limits,
                 end: _,

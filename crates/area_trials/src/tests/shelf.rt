@@ -6,7 +6,7 @@ use crate::tests::{Stands, Told, check_stands, told_rows};
 use area::area::Area;
 use area::area::first::shelve_first;
 use lives::state::State;
-use network_sheet::read::NetworkRead;
+use model_sheet::ModelRead;
 use std::process::Abort;
 use std::test::Fail;
 use street::Street;
@@ -101,13 +101,13 @@ const FIRST: [(u32, Told); 2] = [(50, (0, 2, 0)), (49, (13, 0, 1))];
 #[test]
 fn first_shelf(rt: HostRuntime) -> Result<(), Fail> {
     for (bound, told) in &FIRST {
-        let NetworkRead {
-            network,
+        let ModelRead {
+            model,
             limits,
             end: _,
         } = corridor(rt.alloc(), *bound)?;
         assert_eq!(rt;
-            told_rows(shelve_first(network, limits, PLAN.as_bytes())),
+            told_rows(shelve_first(model, limits, PLAN.as_bytes())),
             *told
         );
     }

@@ -1,8 +1,9 @@
 // The two models that the streets are tried over, read from their sheets.
 use linear::linear::Linear;
-use linear_sheet::read::{LinearRead, read_linear};
+use linear_sheet::read::read_linear;
+use model_sheet::ModelRead;
 use network::network::Network;
-use network_sheet::read::{NetworkRead, read_network};
+use network_sheet::read::read_network;
 use std::alloc::Global;
 use std::test::Fail;
 
@@ -17,12 +18,12 @@ const TWO_MODES: &str =
 pub(crate) fn corridor(heap: Global) -> Result<Network, Fail> {
     match read_network(heap, CORRIDOR.as_bytes()) {
         Ok(
-            NetworkRead {
-                network,
+            ModelRead {
+                model,
                 limits: _,
                 end: _,
             },
-        ) => Ok(network),
+        ) => Ok(model),
         Err(_) => Err(Fail::new("the network sheet is not read")),
     }
 }
@@ -30,7 +31,7 @@ pub(crate) fn corridor(heap: Global) -> Result<Network, Fail> {
 pub(crate) fn two_modes(heap: Global) -> Result<Linear, Fail> {
     match read_linear(heap, TWO_MODES.as_bytes()) {
         Ok(
-            LinearRead {
+            ModelRead {
                 model,
                 limits: _,
                 end: _,
