@@ -1,26 +1,22 @@
 -- Going through the turns for the share of a pair of links.
-use Rattle.std.proofs.Common.{◌≡◌, ℕ, zero, suc, ◌+◌, ◌<◌, ◌≤◌, true, false, cond, List, [], ◌∷◌, length, get_or, drop, Some, None, Option, sym, ap, ◌∙◌, ⊎_elim, arith}
-use Rattle.std.proofs.lemmas.List.{at_drop_more, at_drop_all}
+use Rattle.std.proofs.Common.{◌≡◌, ℕ, zero, suc, ◌<◌, List, [], ◌∷◌, length, get_or, Some, None, Option, refl, sym, ap, ◌∙◌, ⊎_elim, arith}
+use Rattle.std.specs.List.{find}
+use Rattle.std.specs.Option.{option_map}
 use Rattle.std.proofs.lemmas.Bool.{cond-true, cond-false, cases_Bool, and_parts, and_from, eqb-true, eq-eqb}
 use Rattle.network.specs.declared.links.Turn.{Turn}
 use Rattle.network.specs.Sound.{no_turn}
 use Rattle.network.specs.Network.{joins, share_of, Turns, ShareTold}
 
-module _ (ts : List Turn) (i a b : ℕ) (h : i < length ts) where
-  pub share_here : true ≡ joins (get_or ts i no_turn) a b → share_of (drop i ts) a b ≡ Some (get_or ts i no_turn).share
-  share_here e =
-      at_drop_more (λ xs. share_of xs a b) ts i no_turn h
-      ∙ sym (ap (λ t. cond t (Some (get_or ts i no_turn).share) (share_of (drop (i + 1) ts) a b)) e)
-
-  pub share_on : false ≡ joins (get_or ts i no_turn) a b → share_of (drop i ts) a b ≡ share_of (drop (i + 1) ts) a b
-  share_on e =
-      at_drop_more (λ xs. share_of xs a b) ts i no_turn h
-      ∙ sym (ap (λ t. cond t (Some (get_or ts i no_turn).share) (share_of (drop (i + 1) ts) a b)) e)
-
-pub share_none : (ts : List Turn) (i a b : ℕ) → length ts ≤ i → share_of (drop i ts) a b ≡ None
-share_none ts i a b h = at_drop_all (λ xs. share_of xs a b) ts i h
-
 module _ (a b : ℕ) where
+  -- the share of the first turn that is found
+  pub share_found : (ts : List Turn) → option_map (λ t. t.share) (find (λ t. joins t a b) ts) ≡ share_of ts a b
+  share_found [] = refl
+  share_found (t ∷ ts) =
+      ⊎_elim
+      (λ j. ap (option_map (λ t. t.share)) (cond-true (joins t a b) (Some t) (find (λ t. joins t a b) ts) j) ∙ sym (cond-true (joins t a b) (Some t.share) (share_of ts a b) j))
+      (λ n. ap (option_map (λ t. t.share)) (cond-false (joins t a b) (Some t) (find (λ t. joins t a b) ts) n) ∙ (share_found ts ∙ sym (cond-false (joins t a b) (Some t.share) (share_of ts a b) n)))
+      (cases_Bool (joins t a b))
+
   -- one turn more in front
   later : (t : Turn) (ts : List Turn) (s : ℕ) → Turns ts a b s → Turns (t ∷ ts) a b s
   later t ts s u = record { index = suc u.index; inside = omega (arith, u.inside); from = u.from; to = u.to; share = u.share }

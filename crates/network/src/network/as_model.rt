@@ -7,23 +7,18 @@ ghost use Rattle.network.specs.Laws;
 ghost use Rattle.network.specs.Ranges.{sound};
 
 use super::Network;
-use super::held::lowest_held;
+use super::held::Outcome;
 use model::states::{capped_by, fits_modes};
 use model::{Model as QueueModel, Step};
 
-// Mode 0 at every junction.
-fn all_red() -> [u8; 32]
-    ensures { result ≡ replicate 32 0 }
-{
-    [0; 32]
-}
-
 impl Network {
     // The row that counts: all red in place of an illegal one.
+    // A step is a part of the model, so it cannot ask `lamps_of`, which is about a whole model.
+    #[tactic(auto, using(model::proofs::Core::dark_is))]
     pub(super) fn lit(&self, row: [u8; 32]) -> [u8; 32]
         ensures { result ≡ lit self.now.phases.items row }
     {
-        if self.legal(row) { row } else { all_red() }
+        if self.legal(row) { row } else { self.dark() }
     }
 }
 
@@ -41,25 +36,20 @@ impl QueueModel for Network {
     }
 
     fn top(&self, place: usize) -> u32 {
-        match self.link_of(place) {
-            Some(link) => link.top,
-            None => 0,
-        }
+        self.link(place).map_or(0, |link| link.top)
     }
 
     fn load(&self, place: usize) -> u32 {
-        match self.link_of(place) {
-            Some(link) => link.load,
-            None => 0,
-        }
+        self.link(place).map_or(0, |link| link.load)
     }
 
     fn legal(&self, row: [u8; 32]) -> bool {
-        fits_modes(self.phases.as_slice(), &row)
+        fits_modes(&self.phases, &row)
     }
 
+    #[tactic(auto, unfolding(model::specs::Model::dark_row))]
     fn dark(&self) -> [u8; 32] {
-        all_red()
+        [0; 32]
     }
 
     // Clear exactly where each link lets out its wish and no top cuts a queue off.
@@ -74,7 +64,13 @@ impl QueueModel for Network {
         let out = self.releases(&wishes, &queues);
         let amounts = self.amounts(&out, &queues, &coming);
         let next = capped_by(&tops, &amounts);
-        let answer = lowest_held(self.places(), &wishes, &out, &amounts, &tops);
+        let answer = Outcome {
+            wishes,
+            out,
+            amounts,
+            tops,
+        }
+        .lowest_held(self.places());
         Step { next, answer }
     }
 }

@@ -1,54 +1,47 @@
 // Which link a step finds held.
 ghost use Rattle.std.specs.Prelude.{◌≡◌, ◌<◌, ◌≤◌};
-ghost use Rattle.model.specs.Model.{lowest, first};
+ghost use Rattle.model.specs.Model.{lowest};
 ghost use Rattle.network.specs.Network.{verdict_at};
 
 use model::{Answer, Cause};
 
-// Whether the link after k others is held: blocked, or else cut off at its top.
-fn verdict_at(
-    wishes: &[u32; 64],
-    out: &[u32; 64],
-    amounts: &[u32; 64],
-    tops: &[u32; 64],
-    k: usize,
-) -> Answer
-    requires { k < 64 }
-    ensures { result ≡ verdict_at wishes.now out.now amounts.now tops.now k }
-{
-    if out[k] < wishes[k] {
-        Answer::Held(k + 1, Cause::Blocked)
-    } else if tops[k] < amounts[k] {
-        Answer::Held(k + 1, Cause::Overflow)
-    } else {
-        Answer::Clear
-    }
+// What a step works out for each link: its wish, its release, its amount and its top.
+#[derive(Clone, Copy)]
+pub(super) struct Outcome {
+    pub(super) wishes: [u32; 64],
+    pub(super) out: [u32; 64],
+    pub(super) amounts: [u32; 64],
+    pub(super) tops: [u32; 64],
 }
 
-// The first of two answers that is held.
-fn first(one: Answer, other: Answer) -> Answer
-    ensures { result ≡ first one other }
-{
-    match (one, other) {
-        (Answer::Clear, _) => other,
-        _ => one,
+impl Outcome {
+    // Whether the link after k others is held: blocked, or else cut off at its top.
+    fn verdict_at(&self, k: usize) -> Answer
+        requires { k < 64 }
+        ensures { result ≡ verdict_at self.now.wishes self.now.out self.now.amounts self.now.tops k }
+    {
+        if self.out[k] < self.wishes[k] {
+            Answer::Held(k + 1, Cause::Blocked)
+        } else if self.tops[k] < self.amounts[k] {
+            Answer::Held(k + 1, Cause::Overflow)
+        } else {
+            Answer::Clear
+        }
     }
-}
 
-// The lowest held one of so many links.
-pub(super) fn lowest_held(
-    count: usize,
-    wishes: &[u32; 64],
-    out: &[u32; 64],
-    amounts: &[u32; 64],
-    tops: &[u32; 64],
-) -> Answer
-    requires { count ≤ 64 }
-    ensures { result ≡ lowest count (verdict_at wishes.now out.now amounts.now tops.now) }
-{
-    let mut answer = Answer::Clear;
-    for k in 0..count {
-        answer = first(answer, verdict_at(wishes, out, amounts, tops, k));
+    // The lowest held one of so many links.
+    pub(super) fn lowest_held(&self, count: usize) -> Answer
+        requires { count ≤ 64 }
+        ensures { result ≡ lowest count (verdict_at self.now.wishes self.now.out self.now.amounts self.now.tops) }
+    {
+        let mut verdicts = (0..count).map(
+            |k|
+                requires { k < 64 }
+                ensures { result ≡ verdict_at self.entry.now.wishes self.entry.now.out self.entry.now.amounts self.entry.now.tops k }
+            { self.verdict_at(k) },
+        );
+        verdicts
+            .find(|answer| *answer != Answer::Clear)
+            .unwrap_or(Answer::Clear)
     }
-    answer
 }

@@ -20,11 +20,9 @@ impl Network {
         ensures value { result ≡ share_of self.now.turns.items from to }
         ensures joined { ShareTold self.now.turns.items from to result }
     {
-        for t in self.turns.as_slice() {
-            if t.joins(from, to) {
-                return Some(t.share);
-            }
-        }
-        None
+        self.turns
+            .iter()
+            .find(|turn| turn.joins(from, to))
+            .map(|turn| turn.share)
     }
 }

@@ -1,121 +1,100 @@
 // The parts of a step: wishes, releases and amounts, all from the queues before it.
-ghost use Rattle.std.specs.Prelude.{◌≡◌, ℕ, ◌<◌, ◌≤◌, true, length, MatchOption, slice_index};
-ghost use Rattle.model.specs.State.{fits_row};
-ghost use Rattle.network.specs.Sound.{LinkOk, TurnOk};
+ghost use Rattle.std.specs.Prelude.{◌≡◌, ℕ, ◌+◌, ◌-◌, ◌*◌, ◌/◌, ◌<◌, ◌≤◌, min, cond, length, MatchOption, slice_index};
+ghost use Rattle.model.specs.State.{whole, told};
+ghost use Rattle.network.specs.Sound.{TurnOk};
 ghost use Rattle.network.specs.Code.{roads};
-ghost use Rattle.network.specs.Network.{link, tops, loads, green, wish, wishes, room, passage, turned_into, inflow, amount, amounts};
-ghost use Rattle.network.specs.Parts.{NumbersOf, NoneOf, eased_by, eased, Ready};
+ghost use Rattle.network.specs.Network.{tops, loads, mode, green, wish, wishes, passage, inflow, amounts};
+ghost use Rattle.network.specs.Parts.{eased, Ready};
 
 use super::Network;
 use crate::links::{Link, Turn};
+use model::Model as QueueModel;
+use std::array;
 
 impl Network {
-    // The link after k others.
-    pub(super) fn link_at(&self, k: usize) -> Link
-        requires { k < length self.now.links.items }
-        ensures value { result ≡ link (roads self.now) k }
-        ensures sound { LinkOk (length self.now.phases.items) result }
-    {
-        self.links[k]
-    }
-
     // The link of a place, counted from 1.
-    pub(super) fn link_of(&self, place: usize) -> Option<Link>
-        ensures { MatchOption result (NoneOf (roads self.now) place) (NumbersOf (roads self.now) place) }
+    pub(super) fn link(&self, place: usize) -> Option<&Link>
+        ensures top { MatchOption result (told (tops (roads self.now)) place ≡ 0) (λ l. l.now.top ≡ told (tops (roads self.now)) place) }
+        ensures load { MatchOption result (told (loads (roads self.now)) place ≡ 0) (λ l. l.now.load ≡ told (loads (roads self.now)) place) }
     {
-        let count = self.links.len();
-        if place < 1 || place > count {
-            return None;
-        }
-        Some(self.link_at(place - 1))
+        self.links.get(place.checked_sub(1)?)
     }
 
     // The top of each link.
     pub(super) fn tops(&self) -> [u32; 64]
         ensures { result ≡ tops (roads self.now) }
     {
-        let mut tops = [0; 64];
-        for k in 0..self.links.len() {
-            tops[k] = self.link_at(k).top;
-        }
-        tops
+        array::from_fn(|k| self.top(k + 1))
     }
 
     // The load of each link.
     pub(super) fn loads(&self) -> [u32; 64]
         ensures { result ≡ loads (roads self.now) }
     {
-        let mut loads = [0; 64];
-        for k in 0..self.links.len() {
-            loads[k] = self.link_at(k).load;
-        }
-        loads
+        array::from_fn(|k| self.load(k + 1))
     }
 }
 
-impl Network {
-    // Whether the row shows the link green.
-    fn is_green(&self, row: &[u8; 32], k: usize) -> bool
-        requires inside { k < length self.now.links.items }
-        requires legal { fits_row self.now.phases.items row.now ≡ true }
-        ensures { result ≡ green (link (roads self.now) k) row.now }
+impl Link {
+    // The mode that the row shows at the link's head.
+    fn mode(&self, row: &[u8; 32]) -> u8
+        ensures { result ≡ mode self.now row.now }
     {
-        let link = self.link_at(k);
-        let mode = row[link.head - 1];
-        mode > 0 && (link.mask >> (mode - 1)) % 2 == 1
+        row.get(self.head.saturating_sub(1)).copied().unwrap_or(0)
     }
 
-    // What the link would let out.
-    fn wish_of(&self, row: &[u8; 32], queues: &[u32; 64], k: usize) -> u32
-        requires inside { k < length self.now.links.items }
-        requires legal { fits_row self.now.phases.items row.now ≡ true }
-        ensures { result ≡ wish (roads self.now) row.now queues.now k }
+    // Whether the row shows the link green.
+    fn is_green(&self, row: &[u8; 32]) -> bool
+        ensures { result ≡ green self.now row.now }
     {
-        if self.is_green(row, k) {
-            self.link_at(k).flow.min(queues[k])
+        let mode = self.mode(row);
+        mode > 0
+            && self
+                .mask
+                .checked_shr(u32::from(mode - 1))
+                .is_some_and(|rest| rest % 2 == 1)
+    }
+
+    // What the link would let out of its queue.
+    fn wish(&self, row: &[u8; 32], queue: u32) -> u32
+        ensures { result ≡ cond (green self.now row.now) (min self.now.flow queue) 0 }
+    {
+        if self.is_green(row) {
+            self.flow.min(queue)
         } else {
             0
         }
     }
-
-    // What each link would let out.
-    pub(super) fn wishes(&self, row: &[u8; 32], queues: &[u32; 64]) -> [u32; 64]
-        requires { fits_row self.now.phases.items row.now ≡ true }
-        ensures { result ≡ wishes (roads self.now) row.now queues.now }
-    {
-        let mut wishes = [0; 64];
-        for k in 0..self.links.len() {
-            wishes[k] = self.wish_of(row, queues, k);
-        }
-        wishes
-    }
 }
 
 impl Network {
-    // The storage that is left where the turn goes.
-    fn room_for(&self, queues: &[u32; 64], t: &Turn) -> u32
-        requires { (1 ≤ t.now.to) × (t.now.to ≤ length self.now.links.items) }
-        ensures value { result ≡ room (roads self.now) queues.now t.now }
-        ensures small { result ≤ 100000 }
+    // What the link after k others would let out.
+    fn wish(&self, row: &[u8; 32], queues: &[u32; 64], k: usize) -> u32
+        requires { k < 64 }
+        ensures { result ≡ wish (roads self.now) row.now queues.now k }
     {
-        self.link_at(t.to - 1).top.saturating_sub(queues[t.to - 1])
+        self.links
+            .get(k)
+            .map_or(0, |link| link.wish(row, queues[k]))
+    }
+
+    // What each link would let out.
+    pub(super) fn wishes(&self, row: &[u8; 32], queues: &[u32; 64]) -> [u32; 64]
+        ensures { result ≡ wishes (roads self.now) row.now queues.now }
+    {
+        array::from_fn(|k| self.wish(row, queues, k))
     }
 
     // The most that the turn has room for.
-    fn passage(&self, queues: &[u32; 64], t: &Turn) -> u32
-        requires { TurnOk (length self.now.links.items) t.now }
-        ensures { result ≡ passage (roads self.now) queues.now t.now }
+    fn passage(&self, queues: &[u32; 64], turn: &Turn) -> u32
+        requires { TurnOk (length self.now.links.items) turn.now }
+        ensures { result ≡ passage (roads self.now) queues.now turn.now }
     {
-        t.supply * self.room_for(queues, t) / t.share
-    }
-
-    // Lets the link that the turn leaves release no more than the turn has room for.
-    fn tighten(&self, queues: &[u32; 64], out: &mut [u32; 64], t: &Turn)
-        requires { TurnOk (length self.now.links.items) t.now }
-        ensures { out.new ≡ eased_by (roads self.now) queues.now t.now out.old }
-    {
-        let from = t.from - 1;
-        out[from] = out[from].min(self.passage(queues, t));
+        let room = self.links[turn.to - 1]
+            .top
+            .saturating_sub(queues[turn.to - 1]);
+        let weighed = turn.supply * room;
+        weighed / turn.share
     }
 
     // What each link lets out of what it asks for: less where a turn has no room for it.
@@ -123,65 +102,62 @@ impl Network {
         ensures { result ≡ eased (roads self.now) queues.now asked.now }
     {
         let mut out = *asked;
-        for t in self.turns.as_slice() {
-            self.tighten(queues, &mut out, t);
+        for turn in &self.turns {
+            let from = turn.from - 1;
+            out[from] = out[from].min(self.passage(queues, turn));
         }
         out
     }
 }
 
+impl Turn {
+    // The part of a release that takes the turn, rounded down.
+    fn part(&self, release: u32) -> u32
+        requires shared { self.now.share ≤ 1000 }
+        requires small { release ≤ 100000 }
+        ensures { result ≡ self.now.share * release / 1000 }
+    {
+        let thousandths = self.share * release;
+        thousandths / 1000
+    }
+}
+
+// The queue of a link once its release is gone, the inflow is in and the arrivals have come.
+fn queue_after(queue: u32, release: u32, inflow: u32, arrivals: u32) -> u32
+    requires leaving { release ≤ queue }
+    requires queued { queue ≤ 100000 }
+    requires brought { inflow ≤ 25600000 }
+    requires arrived { arrivals ≤ 100000 }
+    ensures { result ≡ queue - release + inflow + arrivals }
+{
+    queue - release + inflow + arrivals
+}
+
 impl Network {
-    // What the turn brings into the link.
-    fn brought(&self, out: &[u32; 64], k: usize, t: &Turn) -> u32
-        requires inside { k < length self.now.links.items }
-        requires sound { TurnOk (length self.now.links.items) t.now }
-        requires small { (j : ℕ) → slice_index out.now j ≤ 100000 }
-        ensures { result ≡ turned_into out.now k t.now }
+    // What all turns bring into each link.
+    fn inflows(&self, out: &[u32; 64]) -> [u32; 64]
+        requires { (j : ℕ) → slice_index out.now j ≤ 100000 }
+        ensures value { result ≡ whole (inflow (roads self.now) out.now) }
+        ensures small { (j : ℕ) → slice_index result j ≤ 25600000 }
     {
-        if t.to == k + 1 {
-            let thousandths = t.share * out[t.from - 1];
-            thousandths / 1000
-        } else {
-            0
+        let mut inflows = [0; 64];
+        for turn in &self.turns {
+            inflows[turn.to - 1] += turn.part(out[turn.from - 1]);
         }
+        inflows
     }
 
-    // What all turns bring into the link.
-    fn inflow_of(&self, out: &[u32; 64], k: usize) -> u32
-        requires inside { k < length self.now.links.items }
-        requires small { (j : ℕ) → slice_index out.now j ≤ 100000 }
-        ensures { result ≡ inflow (roads self.now) out.now k }
-    {
-        let mut sum = 0;
-        for t in self.turns.as_slice() {
-            sum += self.brought(out, k, t);
-        }
-        sum
-    }
-
-    // The queue of the link after the step, before its top cuts it off.
-    fn amount_of(&self, out: &[u32; 64], queues: &[u32; 64], arrivals: &[u32; 64], k: usize) -> u32
-        requires inside { k < length self.now.links.items }
-        requires ready { Ready (roads self.now) out.now queues.now arrivals.now }
-        ensures { result ≡ amount (roads self.now) out.now queues.now arrivals.now k }
-    {
-        queues[k] - out[k] + self.inflow_of(out, k) + arrivals[k]
-    }
-
-    // The amount of each link.
+    // The queue of each link after the step, before its top cuts it off.
     pub(super) fn amounts(
         &self,
         out: &[u32; 64],
         queues: &[u32; 64],
         arrivals: &[u32; 64],
     ) -> [u32; 64]
-        requires { Ready (roads self.now) out.now queues.now arrivals.now }
+        requires { Ready out.now queues.now arrivals.now }
         ensures { result ≡ amounts (roads self.now) out.now queues.now arrivals.now }
     {
-        let mut amounts = [0; 64];
-        for k in 0..self.links.len() {
-            amounts[k] = self.amount_of(out, queues, arrivals, k);
-        }
-        amounts
+        let inflows = self.inflows(out);
+        array::from_fn(|k| queue_after(queues[k], out[k], inflows[k], arrivals[k]))
     }
 }

@@ -1,13 +1,9 @@
 use Rattle.model.specs.State.{told}
-use Rattle.model.proofs.Core.{lit_fits}
 use Rattle.std.proofs.Common.{ap, ◌∙◌}
 use Rattle.network.specs.Code.{roads}
 use Rattle.network.specs.Ranges.{sound, lets_out}
 use Rattle.network.proofs.Stepping.{let_out_is}
 use Rattle.network.proofs.network.Network.release.Goals as goal
-
-pub wishes-wishes-requires : goal.wishes-wishes-requires
-wishes-wishes-requires c = simp c.lit.ensures (lit_fits (roads c.args.self.now).phases c.args.row)
 
 pub returns : goal.returns
 returns c =

@@ -7,21 +7,22 @@ use Rattle.network.specs.Easing.{eased_more}
 use Rattle.network.specs.Ranges.{sound}
 use Rattle.network.proofs.network.Network.releases.Goals as goal
 
-pub loop-t-init : goal.loop-t-init
-loop-t-init c = whole_is _ c.args.asked.now (omega arith) (λ k h. refl)
+pub loop-turn-init : goal.loop-turn-init
+loop-turn-init c = whole_is _ c.args.asked.now (omega arith) (λ k h. refl)
 
-pub loop-t-preserved : goal.loop-t-preserved
-loop-t-preserved c =
+pub loop-turn-preserved : goal.loop-turn-preserved
+loop-turn-preserved c =
     let n = roads c.args.self.now in
-    let s = c.as_slice-t-items.ensures.value in
-    let h : c.loop-t.t-index < length n.turns = rw (← s) c.loop-t-test.true in
-    let e = eased_more n (sound c.args.self.now) c.args.queues.now c.args.asked.now c.loop-t.t-index h in
-    let t = c.tighten.ensures in
+    let s = c.deref-turn-items.ensures.value in
+    let h : c.loop-turn.turn-index < length n.turns = rw (← s) c.loop-turn-test.true in
+    let e = eased_more n (sound c.args.self.now) c.args.queues.now c.args.asked.now c.loop-turn.turn-index h in
+    let p = c.passage.ensures in
+    let m = c.min.ensures in
     cc
 
 pub returns : goal.returns
 unfolding eased
 returns c =
     let n = roads c.args.self.now in
-    let e = take_all c.loop-t.t-index n.turns (omega arith) in
-    rw e at c.loop-t.invariant
+    let e = take_all c.loop-turn.turn-index n.turns (omega arith) in
+    rw e at c.loop-turn.invariant

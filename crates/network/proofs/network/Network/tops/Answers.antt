@@ -1,20 +1,11 @@
-use Rattle.std.proofs.Common.{ap, arith}
-use Rattle.model.proofs.State.{filled_none, filled_more, filled_all}
+use Rattle.std.proofs.Common.{rules}
+use Rattle.model.proofs.Made.{told_made}
 use Rattle.network.specs.Code.{roads}
-use Rattle.network.specs.Network.{link, tops}
-use Rattle.network.specs.Sizes.{top_past}
+use Rattle.network.specs.Network.{tops}
+use Rattle.network.specs.Sizes.{length_tops}
 use Rattle.network.proofs.network.Network.tops.Goals as goal
 
-pub loop-k-init : goal.loop-k-init
-loop-k-init c = filled_none _
-
-pub loop-k-preserved : goal.loop-k-preserved
-loop-k-preserved c =
-    filled_more (λ j. (link (roads c.args.self.now) j).top) c.loop-k.k c.loop-k.tops c.link_at.result.top
-    (omega (arith, c.args.self.now.few)) (ap (λ l. l.top) c.link_at.ensures.value) c.loop-k.invariant
-
 pub returns : goal.returns
-unfolding tops
 returns c =
     let n = roads c.args.self.now in
-    filled_all (λ j. (link n j).top) c.loop-k.k c.loop-k.tops c.loop-k.invariant (λ k h. top_past n k (omega arith))
+    told_made _ (tops n) _ (λ i y q call. (search rules, search rules)) c.from_fn.result (length_tops n) c.from_fn.ensures.items

@@ -1,16 +1,12 @@
 use Rattle.std.proofs.Common.{ap, ◌∙◌}
 use Rattle.model.specs.State.{capped}
 use Rattle.model.specs.Model.{lowest}
-use Rattle.model.proofs.Core.{lit_fits}
 use Rattle.network.specs.Code.{roads}
 use Rattle.network.specs.Network.{verdict_at}
 use Rattle.network.specs.Order.{flows_exactly}
 use Rattle.network.specs.Ranges.{sound, ready}
 use Rattle.network.proofs.Stepping.{out_is, step_is}
 use Rattle.network.proofs.network.as_model.NetworkQueueModel.step.Goals as goal
-
-pub wishes-wishes-requires : goal.wishes-wishes-requires
-wishes-wishes-requires c = simp c.lit.ensures (lit_fits (roads c.args.self.now).phases c.args.row)
 
 pub amounts-amounts-requires : goal.amounts-amounts-requires
 amounts-amounts-requires c =

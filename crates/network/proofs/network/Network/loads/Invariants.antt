@@ -1,7 +1,0 @@
-use Rattle.model.specs.State.{Filled}
-use Rattle.network.specs.Code.{roads}
-use Rattle.network.specs.Network.{link}
-use Rattle.network.proofs.network.Network.loads.Given as goal
-
-abbrev pub invariant-loop-k : goal.invariant-loop-k
-invariant-loop-k l = Filled (λ j. (link (roads l.self) j).load) l.k l.loads
