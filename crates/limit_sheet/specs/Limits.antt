@@ -1,15 +1,14 @@
 -- The limits of a model sheet.
-use Rattle.std.specs.Prelude.{◌≡◌, ℕ, ◌≤◌, Bool, false, cond, ◌||◌, List, [], ◌∷◌, length, take, replicate, Ok, codes, decimal, ◌==◌, ◌≢◌, slice_set}
-use Rattle.std.specs.List.{flat_map, AllByRecursion}
-use Rattle.refusal.specs.Questions.{Told, then, no, turns}
+use Rattle.std.specs.Prelude.{◌≡◌, ℕ, ◌≤◌, Bool, false, cond, ◌||◌, List, [], ◌∷◌, length, take, replicate, Ok, codes, decimal, ◌==◌, ◌≢◌}
+use Rattle.std.specs.List.{list_any, flat_map, AllByRecursion}
+use Rattle.refusal.specs.Questions.{Told, then, no}
 use Rattle.words.specs.Numbers.{number_at}
 use Rattle.words.specs.Spelling.{Spelled}
 use Rattle.words.specs.Tables.{written}
 use Rattle.words.specs.declared.recorded.Recorded.{Recorded}
-use Rattle.records.specs.Sections.{Reader, Items, section_of}
+use Rattle.records.specs.Sections.{Reader, Items, table_at, section_of}
 use Rattle.plan.specs.declared.limits.Term.{Term}
 use Rattle.plan.specs.declared.limits.Limit.{Limit}
-use Rattle.limit_sheet.specs.declared.Terms.{Terms}
 
 -- what stands beyond the last term
 abbrev pub no_term : Term
@@ -17,8 +16,7 @@ no_term = record { place = 0; weight = 0 }
 
 -- the place is one of the terms'
 abbrev pub named_in : ℕ → List Term → Bool
-named_in p [] = false
-named_in p (t ∷ ts) = t.place == p || named_in p ts
+named_in p ts = list_any (λ t. t.place == p) ts
 
 -- a place is named more than once
 abbrev pub repeated : List Term → Bool
@@ -26,18 +24,15 @@ repeated [] = false
 repeated (t ∷ ts) = named_in t.place ts || repeated ts
 
 -- a term: a place from 1 to places, and a weight from 1 to 1000
-abbrev pub term_at : List ℕ → ℕ → ℕ → Told (Recorded Term)
-term_at bs places at =
+abbrev pub term_at : List ℕ → ℕ → Reader Term
+term_at bs places at before =
     then (number_at bs at 1 places) (λ p.
     then (number_at bs p.end 1 1000) (λ w.
     Ok (record { item = record { place = p.value; weight = w.value }; end = w.end })))
 
--- term k, into its place of the table
-abbrev pub next_term : List ℕ → ℕ → ℕ → Terms → Told Terms
-next_term bs places k s = then (term_at bs places s.end) (λ r. Ok (record { table = slice_set s.table k r.item; end = r.end }))
-
-abbrev pub terms_at : List ℕ → ℕ → ℕ → ℕ → Told Terms
-terms_at bs places at count = turns (next_term bs places) count 0 (record { table = replicate 8 no_term; end = at })
+-- so many terms, as a table of 8
+abbrev pub terms_at : List ℕ → ℕ → ℕ → ℕ → Told (Recorded (List Term))
+terms_at bs places at count = table_at (term_at bs places) 8 no_term at count
 
 -- question 10, after the record, which begins at p: is each place named once?
 abbrev pub once_only : ℕ → Recorded Limit → Told (Recorded Limit)
@@ -49,7 +44,7 @@ limit_at bs places at before =
     then (number_at bs at 0 999999999) (λ bound.
     then (number_at bs bound.end 1 8) (λ count.
     then (terms_at bs places count.end count.value) (λ terms.
-    once_only bound.place (record { item = record { bound = bound.value; count = count.value; terms = terms.table }; end = terms.end }))))
+    once_only bound.place (record { item = record { bound = bound.value; count = count.value; terms = terms.item }; end = terms.end }))))
 
 -- the section: at most 32 limits on so many places
 abbrev pub limits_section : List ℕ → ℕ → ℕ → Told (Items Limit)

@@ -1,14 +1,13 @@
 // The limits of a model sheet: each a bound, a count of terms, and a place and a weight for each term.
 #![tactic(auto)]
 
-ghost use Rattle.std.specs.Prelude.{◌≡◌, ◌≤◌};
-ghost use Rattle.words.specs.Faults.{told};
-ghost use Rattle.limit_sheet.specs.Limits.{named_in, repeated, term_at, terms_at, limit_at, limits_section};
+ghost use Rattle.std.specs.Prelude.{◌≡◌};
+ghost use Rattle.limit_sheet.specs.Limits.{named_in, repeated, term_at, limit_at, limits_section};
 ghost use Rattle.records.specs.Sections.{ListedAs};
 
 use plan::limits::{Limit, Term};
 use records::fault::ModelFault;
-use records::{Listed, Record, read_section};
+use records::{Listed, Record, read_section, read_table};
 use std::alloc::Global;
 use words::fault::SheetFault;
 use words::number::number;
@@ -18,66 +17,42 @@ use words::recorded::Recorded;
 fn names(terms: &[Term], place: usize) -> bool
     ensures { result ≡ named_in place terms.now }
 {
-    for t in terms {
-        if t.place == place {
-            return true;
-        }
-    }
-    false
+    terms.iter().any(|t| t.place == place)
 }
 
 // Is a place named more than once?
 fn repeats(terms: &[Term]) -> bool
     ensures { result ≡ repeated terms.now }
 {
-    for i in 0..terms.len() {
-        let place = terms[i].place;
-        if names(&terms[i + 1..], place) {
-            return true;
-        }
-    }
-    false
+    terms
+        .iter()
+        .enumerate()
+        .any(|(k, t)| names(&terms[k + 1..], t.place))
 }
 
-// The terms of a limit, with zeros beyond the last, and where the last of them ended.
+// A term of a limit over a model with so many places.
 #[derive(Clone, Copy)]
-struct Terms {
-    table: [Term; 8],
-    end: usize,
+struct TermRecord {
+    places: u32,
 }
 
-fn read_term(bytes: &[u8], at: usize, places: u32) -> Result<Recorded<Term>, SheetFault>
-    ensures { told result ≡ term_at bytes.now places at }
-{
-    let place = number(bytes, at, 1, places)?;
-    let weight = number(bytes, place.end, 1, 1000)?;
-    let item = Term {
-        place: place.value as usize,
-        weight: weight.value,
-    };
-    Ok(Recorded {
-        item,
-        end: weight.end,
-    })
-}
+impl Record for TermRecord {
+    type Item = Term;
 
-// So many terms.
-fn read_terms(bytes: &[u8], at: usize, count: usize, places: u32) -> Result<Terms, SheetFault>
-    requires { count ≤ 8 }
-    ensures { told result ≡ terms_at bytes.now places at count }
-{
-    let mut table = [Term {
-        place: 0,
-        weight: 0,
-    }; 8];
-    let mut end = at;
-    for k in 0..count {
-        let read = read_term(bytes, end, places)?;
-        let term = read.item;
-        table[k] = term;
-        end = read.end;
+    ghost reads = { λ s bs. term_at bs s.places };
+
+    fn read(&self, bytes: &[u8], at: usize, before: &[Term]) -> Result<Recorded<Term>, SheetFault> {
+        let place = number(bytes, at, 1, self.places)?;
+        let weight = number(bytes, place.end, 1, 1000)?;
+        let item = Term {
+            place: place.value as usize,
+            weight: weight.value,
+        };
+        Ok(Recorded {
+            item,
+            end: weight.end,
+        })
     }
-    Ok(Terms { table, end })
 }
 
 // A limit over a model with so many places.
@@ -100,9 +75,16 @@ impl Record for LimitRecord {
         let bound = number(bytes, at, 0, 999_999_999)?;
         let count = number(bytes, bound.end, 1, 8)?;
         let used = count.value as usize;
-        let terms = read_terms(bytes, count.end, used, self.places)?;
-        let table = terms.table;
-        if repeats(&table[0..used]) {
+        let no_term = Term {
+            place: 0,
+            weight: 0,
+        };
+        let kind = TermRecord {
+            places: self.places,
+        };
+        let terms = read_table(&kind, bytes, count.end, used, no_term)?;
+        let table = terms.item;
+        if repeats(&table[..used]) {
             return Err(SheetFault::RepeatedPlace(bound.place));
         }
         let item = Limit {

@@ -1,17 +1,19 @@
 -- A section is read exactly where it stands.
-use Rattle.std.proofs.Common.{◌≡◌, ℕ, zero, suc, ◌+◌, ◌^◌, ◌<◌, ◌≤◌, false, List, [], ◌∷◌, ◌++◌, length, get_or, Ok, Err, decimal, Result, sym, refl, ap, ◌∙◌, subst, inl, inr, append_assoc, arith}
-use Rattle.std.specs.List.{AllByRecursion}
+use Rattle.std.proofs.Common.{◌≡◌, ℕ, zero, suc, ◌+◌, ◌^◌, ◌<◌, ◌≤◌, min, false, List, [], ◌∷◌, ◌++◌, length, get_or, replicate, Ok, Err, decimal, Result, sym, refl, ap, ◌∙◌, subst, inl, inr, append_assoc, arith}
+use Rattle.std.specs.List.{flat_map, AllByRecursion}
 use Rattle.std.proofs.ByRecursion.{All-get_or}
 use Rattle.refusal.specs.Questions.{Told, then, turns}
 use Rattle.refusal.proofs.Turning.{then_ok, then_parts, ok_same}
 use Rattle.words.specs.Words.{numeral}
 use Rattle.words.specs.Numbers.{number_at, section_at}
-use Rattle.words.specs.Spelling.{Next}
+use Rattle.words.specs.Spelling.{Next, Spelled}
+use Rattle.words.specs.Tables.{written}
 use Rattle.words.proofs.Due.{number_stands, number_read, section_stands, section_read}
+use Rattle.words.proofs.Filling.{spelled_join, spelled_split}
 use Rattle.words.specs.declared.recorded.Recorded.{Recorded}
 use Rattle.records.specs.declared.fault.ModelFault.{ModelFault}
 use Rattle.records.specs.declared.fault.ModelFault.TheVariants.{Sheet, Memory}
-use Rattle.records.specs.Sections.{Reader, Items, next_record, records_at, section_of, Saying, Said, Section, ToldAs, Exactly}
+use Rattle.records.specs.Sections.{Reader, Items, next_record, records_at, table_of, table_at, section_of, Saying, Said, Section, ToldAs, Exactly}
 
 -- a record is accepted exactly where it says what was read
 pub record Exact {A : Type 0} (read : Reader A) (R : Saying A) : Type 0 where
@@ -55,6 +57,30 @@ module _ {A : Type 0} (read : Reader A) (R : Saying A) (exact : Exact read R) wh
       ∙ records_read xs (k + 1) t to h.2
       ∙ ap (λ ys. Ok (record { items = ys; end = to })) (append_assoc s.items (x ∷ []) xs)
 
+  -- a table that was read: its items, one after the other, and `rest` beyond them
+  pub record Tabled (n : ℕ) (rest : A) (at count : ℕ) (t : Recorded (List A)) : Type 0 where
+    pub items : List A
+    pub long : length items ≡ count
+    pub said : Said R [] at items t.end
+    pub table : t.item ≡ written (replicate n rest) 0 items
+
+  pub table_stands : (n : ℕ) (rest : A) (at count : ℕ) (t : Recorded (List A)) → count ≤ n → table_at read n rest at count ≡ Ok t → Tabled n rest at count t
+  table_stands n rest at count t few h =
+      let p = then_parts (records_at read at (min count n)) (λ s. Ok (table_of n rest s)) t h in
+      let d = records_stand (min count n) 0 (record { items = []; end = at }) p.0 p.1 in
+      subst (Tabled n rest at count) (ok_same p.2) (record {
+        items = p.0.items;
+        long = ap length d.all ∙ d.long ∙ omega arith;
+        said = subst (λ xs. Said R [] at xs p.0.end) (sym d.all) d.said;
+        table = refl;
+      })
+
+  pub table_reads : (n : ℕ) (rest : A) (at : ℕ) (xs : List A) (to : ℕ) → length xs ≤ n → Said R [] at xs to → table_at read n rest at (length xs) ≡ Ok (record { item = written (replicate n rest) 0 xs; end = to })
+  table_reads n rest at xs to few s =
+      let all : min (length xs) n ≡ length xs = omega arith in
+      ap (λ c. then (records_at read at c) (λ r. Ok (table_of n rest r))) all
+      ∙ then_ok _ (records_read xs 0 (record { items = []; end = at }) to s)
+
   module _ (bs word : List ℕ) (at low high : ℕ) where
     pub section_stands_as : (t : Items A) → section_of read bs at word low high ≡ Ok t → Section R bs at word low high t.items t.end
     section_stands_as t h =
@@ -84,6 +110,21 @@ said_all : {A : Type 0} (R : Saying A) (P : A → Type 0) → ((before : List A)
 said_all R P each before at [] to s = tt
 said_all R P each before at (x ∷ xs) to s =
     (each before at x s.0 s.1, said_all R P each (before ++ (x ∷ [])) s.0 xs to s.2)
+
+-- records that each say their own words are the words of all of them
+module _ {A : Type 0} (R : Saying A) (P : A → Type 0) (bs : List ℕ) (text : A → List (List ℕ)) where
+  pub said_words : ((before : List A) (at : ℕ) (x : A) (to : ℕ) → R before at x to → P x × Spelled bs at (text x) to) → (before : List A) (at : ℕ) (xs : List A) (to : ℕ) → Said R before at xs to → AllByRecursion P xs × Spelled bs at (flat_map text xs) to
+  said_words each before at [] to s = (tt, s)
+  said_words each before at (x ∷ xs) to s =
+      let one = each before at x s.0 s.1 in
+      let more = said_words each (before ++ (x ∷ [])) s.0 xs to s.2 in
+      ((one.0, more.0), spelled_join bs (text x) (flat_map text xs) at s.0 to one.1 more.1)
+
+  pub words_said : ((before : List A) (at : ℕ) (x : A) (to : ℕ) → P x → Spelled bs at (text x) to → R before at x to) → (before : List A) (at : ℕ) (xs : List A) (to : ℕ) → AllByRecursion P xs → Spelled bs at (flat_map text xs) to → Said R before at xs to
+  words_said each before at [] to p s = s
+  words_said each before at (x ∷ xs) to p s =
+      let w = spelled_split bs (text x) (flat_map text xs) at to s in
+      (w.0, each before at x w.0 p.0 w.1, words_said each (before ++ (x ∷ [])) w.0 xs to p.1 w.2)
 
 -- a section that was read: how many items there are, and what holds of each
 pub record Kept {A : Type 0} (P : A → Type 0) (d : A) (low high : ℕ) (xs : List A) : Type 0 where

@@ -1,13 +1,12 @@
-use Rattle.std.proofs.Common.{sym, ◌∙◌, arith}
-use Rattle.limit_sheet.specs.Limits.{no_term}
-use Rattle.limit_sheet.proofs.Steps.{repeated_here, repeated_more, repeated_done}
+use Rattle.std.proofs.Common.{◌∙◌, refl, rules}
+use Rattle.std.proofs.lemmas.Iterator.{YieldsList-from_slice}
+use Rattle.std.proofs.lemmas.Iterator.Consumers.{YieldsList-from_enumerate}
+use Rattle.std.proofs.lemmas.Iterator.Search.{any_from_yields_List}
+use Rattle.limit_sheet.proofs.Steps.{named_later, later_from, rest}
 use Rattle.limit_sheet.proofs.repeats.Goals as goal
 
-pub returns-then-names : goal.returns-then-names
-returns-then-names c = sym (repeated_here c.args.terms.now c.loop-i.i no_term (omega arith) c.if-names.ensures) ∙ c.loop-i.invariant
-
-pub loop-i-preserved : goal.loop-i-preserved
-loop-i-preserved c = sym (repeated_more c.args.terms.now c.loop-i.i no_term (omega arith) c.if-names.ensures) ∙ c.loop-i.invariant
-
 pub returns : goal.returns
-returns c = sym (repeated_done c.args.terms.now c.loop-i.i (omega arith)) ∙ c.loop-i.invariant
+returns c =
+    let ts = c.args.terms.now in
+    any_from_yields_List (named_later ts) _ _ c.any.result c.any.ensures.ran (YieldsList-from_enumerate (YieldsList-from_slice ts (cc)) (cc)) (λ x b q k. search (rules, rest))
+    ∙ later_from ts ts 0 refl
