@@ -5,16 +5,16 @@ use Rattle.plan.specs.declared.plan.Plan.{Plan}
 use Rattle.plan.specs.Check.{Timing, timing_of}
 use Rattle.words.specs.declared.fault.SheetFault.{SheetFault}
 use Rattle.words.specs.Faults.{sheet_refusal}
-use Rattle.plan_sheet.specs.declared.read.PlanRead.{PlanRead}
+use Rattle.words.specs.declared.recorded.Recorded.{Recorded}
 use Rattle.plan_sheet.specs.Plans.{PlanSaid}
 use Rattle.plan_sheet.specs.Faults.{plan_refusal}
 use Rattle.plan_sheet.specs.declared.fault.PlanFault.{PlanFault}
 
-abbrev pub plan_said : PlanRead → PlanSaid
-plan_said r = record { start = r.plan.start; rows = r.plan.rows; count = r.plan.count; end = r.end }
+abbrev pub plan_said : Recorded Plan → PlanSaid
+plan_said r = record { start = r.item.start; rows = r.item.rows; count = r.item.count; end = r.end }
 
 -- the plan, or the refusal
-abbrev pub plan_told : Result PlanRead SheetFault → Told PlanSaid
+abbrev pub plan_told : Result (Recorded Plan) SheetFault → Told PlanSaid
 plan_told (Ok r) = Ok (plan_said r)
 plan_told (Err f) = Err (sheet_refusal f)
 

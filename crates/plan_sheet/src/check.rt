@@ -26,7 +26,7 @@ pub fn check_sheet<M: Model>(model: &M, limits: &[Limit], bytes: &[u8]) -> Resul
     ensures accepts { Accepts (M.Model.meaning model.now) limits.now bytes.now (is_ok result) }
 {
     let read = read_plan(model, bytes)?;
-    check_plan(model, limits, &read.plan)
+    check_plan(model, limits, &read.item)
 }
 
 // The plan that a sheet says, if the check accepts it.
@@ -35,6 +35,6 @@ pub fn accepted_plan<M: Model>(model: &M, limits: &[Limit], bytes: &[u8]) -> Res
     ensures accepts { Accepts (M.Model.meaning model.now) limits.now bytes.now (is_ok result) }
 {
     let read = read_plan(model, bytes)?;
-    check_plan(model, limits, &read.plan)?;
-    Ok(read.plan)
+    check_plan(model, limits, &read.item)?;
+    Ok(read.item)
 }

@@ -38,7 +38,7 @@ impl From<PlanFault> for Refusal {
     fn from(fault: PlanFault) -> Refusal {
         match fault {
             PlanFault::Sheet(f) => f.into(),
-            PlanFault::Check(f) => f.refusal(),
+            PlanFault::Check(f) => f.into(),
         }
     }
 }

@@ -1,173 +1,134 @@
 // Reading a plan sheet: the section `start` and the section `rows`.
-ghost use Rattle.std.specs.Prelude.{◌≡◌, ◌<◌, ◌≤◌};
+ghost use Rattle.std.specs.Prelude.{◌≡◌, ◌<◌};
 ghost use Rattle.words.specs.Faults.{told};
-ghost use Rattle.plan_sheet.specs.Plans.{place_at, start_at, mode_at, row_at, next_row, rows_at, start_section, rows_section, plan_sheet};
+ghost use Rattle.plan_sheet.specs.Plans.{queue_at, mode_at, modes_at, row_at, start_section, rows_section, plan_sheet};
 ghost use Rattle.plan_sheet.specs.Says.{Exact};
 ghost use Rattle.plan_sheet.specs.Views.{plan_told};
 
 use model::Model;
 use plan::plan::Plan;
+use records::{Record, read_table};
 use words::fault::SheetFault;
 use words::number::{number, section};
+use words::reading::Reading;
+use words::recorded::Recorded;
 use words::word::short_enough;
 
-// The numbers of a start, and where the last of them ended.
+// The number of a place: up to the place's top.
 #[derive(Clone, Copy)]
-struct Start {
-    queues: [u32; 64],
-    end: usize,
+struct QueueRecord<'a, M> {
+    model: &'a M,
 }
 
-// The modes of a row, the first byte of the last one, and where it ended.
-#[derive(Clone, Copy)]
-struct Row {
-    modes: [u8; 32],
-    last: usize,
-    end: usize,
-}
+impl<'a, M: Model> Record for QueueRecord<'a, M> {
+    type Item = u32;
 
-// The rows of a plan, and where the last of them ended.
-#[derive(Clone, Copy)]
-struct Rows {
-    table: [[u8; 32]; 64],
-    end: usize,
-}
+    ghost reads = { λ s bs. queue_at (M.Model.meaning s.model.now) bs };
 
-// A plan, and where the last word of its sheet ended.
-#[derive(Clone, Copy)]
-pub struct PlanRead {
-    pub plan: Plan,
-    pub end: usize,
-}
-
-// One number more: that of place k, counted from 0, from 0 to its top.
-fn next_queue<M: Model>(
-    model: &M,
-    bytes: &[u8],
-    k: usize,
-    start: Start,
-) -> Result<Start, SheetFault>
-    requires { k < 64 }
-    ensures { told result ≡ place_at (M.Model.meaning model.now) bytes.now k start }
-{
-    let n = number(bytes, start.end, 0, model.top(k + 1))?;
-    let mut queues = start.queues;
-    queues[k] = n.value;
-    Ok(Start { queues, end: n.end })
-}
-
-// A number for each place.
-fn read_start<M: Model>(model: &M, bytes: &[u8], at: usize) -> Result<Start, SheetFault>
-    ensures { told result ≡ start_at (M.Model.meaning model.now) bytes.now at }
-{
-    let places = model.places();
-    let mut start = Start {
-        queues: [0; 64],
-        end: at,
-    };
-    for k in 0..places {
-        start = next_queue(model, bytes, k, start)?;
+    fn read(&self, bytes: &[u8], at: usize, before: &[u32]) -> Result<Recorded<u32>, SheetFault> {
+        let top = self.model.top(before.len() + 1);
+        Ok(number(bytes, at, 0, top)?.into())
     }
-    Ok(start)
 }
 
 // One mode more: that of signal k, counted from 0, from 0 to 8.
-fn next_mode(bytes: &[u8], k: usize, row: Row) -> Result<Row, SheetFault>
+fn next_mode(
+    bytes: &[u8],
+    k: usize,
+    row: Reading<[u8; 32]>,
+) -> Result<Reading<[u8; 32]>, SheetFault>
     requires { k < 32 }
     ensures { told result ≡ mode_at bytes.now k row }
 {
     let n = number(bytes, row.end, 0, 8)?;
-    let mut modes = row.modes;
+    let mut modes = row.value;
     modes[k] = n.value as u8;
-    Ok(Row {
-        modes,
-        last: n.place,
+    Ok(Reading {
+        value: modes,
+        place: n.place,
         end: n.end,
     })
 }
 
-// A mode for each signal; at the last one, the row has to be legal.
-fn read_row<M: Model>(model: &M, bytes: &[u8], at: usize) -> Result<Row, SheetFault>
-    ensures { told result ≡ row_at (M.Model.meaning model.now) bytes.now at }
+// A mode for each signal; the place is that of the last one.
+fn read_modes<M: Model>(model: &M, bytes: &[u8], at: usize) -> Result<Reading<[u8; 32]>, SheetFault>
+    ensures { told result ≡ modes_at (M.Model.meaning model.now) bytes.now at }
 {
     let signals = model.signals();
-    let mut row = Row {
-        modes: [0; 32],
-        last: at,
+    let mut row = Reading {
+        value: [0; 32],
+        place: at,
         end: at,
     };
     for k in 0..signals {
         row = next_mode(bytes, k, row)?;
     }
-    if !model.legal(row.modes) {
-        return Err(SheetFault::OutOfRange(row.last));
-    }
     Ok(row)
 }
 
-// One row more, numbered k.
-fn next_row<M: Model>(model: &M, bytes: &[u8], k: usize, rows: Rows) -> Result<Rows, SheetFault>
-    requires { k < 64 }
-    ensures { told result ≡ next_row (M.Model.meaning model.now) bytes.now k rows }
-{
-    let row = read_row(model, bytes, rows.end)?;
-    let modes = row.modes;
-    let mut table = rows.table;
-    table[k] = modes;
-    Ok(Rows {
-        table,
-        end: row.end,
-    })
+// A row: a mode for each signal; at the last one, the row has to be legal.
+#[derive(Clone, Copy)]
+struct RowRecord<'a, M> {
+    model: &'a M,
 }
 
-// As many rows as are due.
-fn read_rows<M: Model>(model: &M, bytes: &[u8], at: usize, count: usize) -> Result<Rows, SheetFault>
-    requires { count ≤ 64 }
-    ensures { told result ≡ rows_at (M.Model.meaning model.now) bytes.now at count }
-{
-    let mut rows = Rows {
-        table: [[0; 32]; 64],
-        end: at,
-    };
-    for k in 0..count {
-        rows = next_row(model, bytes, k, rows)?;
+impl<'a, M: Model> Record for RowRecord<'a, M> {
+    type Item = [u8; 32];
+
+    ghost reads = { λ s bs. row_at (M.Model.meaning s.model.now) bs };
+
+    fn read(
+        &self,
+        bytes: &[u8],
+        at: usize,
+        before: &[[u8; 32]],
+    ) -> Result<Recorded<[u8; 32]>, SheetFault> {
+        let row = read_modes(self.model, bytes, at)?;
+        if !self.model.legal(row.value) {
+            return Err(SheetFault::OutOfRange(row.place));
+        }
+        Ok(row.into())
     }
-    Ok(rows)
 }
 
 // The section `start`: exactly the model's places.
-fn start_section<M: Model>(model: &M, bytes: &[u8]) -> Result<Start, SheetFault>
+fn start_section<M: Model>(model: &M, bytes: &[u8]) -> Result<Recorded<[u32; 64]>, SheetFault>
     ensures { told result ≡ start_section (M.Model.meaning model.now) bytes.now }
 {
-    let places = model.places() as u32;
+    let places = model.places();
+    let due = places as u32;
     let named = section(bytes, 0, b"start")?;
-    let count = number(bytes, named, places, places)?;
-    read_start(model, bytes, count.end)
+    let count = number(bytes, named, due, due)?;
+    read_table(&QueueRecord { model }, bytes, count.end, places, 0)
 }
 
 // The section `rows`, 1 to 64 rows, after the start: the plan of both.
-fn rows_section<M: Model>(model: &M, bytes: &[u8], start: Start) -> Result<PlanRead, SheetFault>
+fn rows_section<M: Model>(
+    model: &M,
+    bytes: &[u8],
+    start: Recorded<[u32; 64]>,
+) -> Result<Recorded<Plan>, SheetFault>
     ensures { plan_told result ≡ rows_section (M.Model.meaning model.now) bytes.now start }
 {
     let named = section(bytes, start.end, b"rows")?;
     let due = number(bytes, named, 1, 64)?;
     let count = due.value as usize;
-    let read = read_rows(model, bytes, due.end, count)?;
-    let queues = start.queues;
-    let table = read.table;
+    let rows = read_table(&RowRecord { model }, bytes, due.end, count, [0; 32])?;
+    let queues = start.item;
+    let table = rows.item;
     let plan = Plan {
         start: queues,
         rows: table,
         count,
     };
-    Ok(PlanRead {
-        plan,
-        end: read.end,
+    Ok(Recorded {
+        item: plan,
+        end: rows.end,
     })
 }
 
 // The plan that a sheet says for the model.
-pub fn read_plan<M: Model>(model: &M, bytes: &[u8]) -> Result<PlanRead, SheetFault>
+pub fn read_plan<M: Model>(model: &M, bytes: &[u8]) -> Result<Recorded<Plan>, SheetFault>
     ensures is { plan_told result ≡ plan_sheet (M.Model.meaning model.now) bytes.now }
     ensures exact { Exact (M.Model.meaning model.now) bytes.now (plan_told result) }
 {
