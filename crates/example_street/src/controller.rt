@@ -1,18 +1,20 @@
-// What a street asks of the controller at the kerb. It promises nothing: whatever it answers, the street keeps its own promise.
+// What a street asks of the controller at the kerb. Whatever it answers, the street keeps its own promise.
+ghost use Rattle.std.specs.Prelude.{ℕ, List};
+ghost use Rattle.street.specs.declared.Showing.{Showing};
+
+use street::Showing;
 
 pub trait Controller {
-    // Sends a row to the lamps, and says whether the controller took it. One that does not take a row is dark.
-    fn send(&mut self, row: [u8; 32]) -> bool;
+    // what `send` may answer to a row, and `count` at a place; an `impl` that leaves them out promises nothing
+    ghost sends: { Self → List ℕ → Showing → Self → Type 0 } = { λ _ _ _ _. Unit {0} };
+
+    ghost counts: { Self → ℕ → ℕ → Type 0 } = { λ _ _ _. Unit {0} };
+
+    // Sends a row to the lamps, and says whether they show it. A controller that does not take a row is dark.
+    fn send(&mut self, row: [u8; 32]) -> Showing
+        ensures { sends self.old row result self.new };
 
     // What the detector at a place counted since the row was sent. Places are numbered from 1.
-    fn count(&self, place: usize) -> u32;
-}
-
-// What each detector counted.
-pub(crate) fn counts_of<C: Controller>(controller: &C) -> [u32; 64] {
-    let mut counts = [0; 64];
-    for k in 0..64 {
-        counts[k] = controller.count(k + 1);
-    }
-    counts
+    fn count(&self, place: usize) -> u32
+        ensures { counts self.now place result };
 }

@@ -2,4 +2,5 @@
 #![tactic(auto)]
 
 pub mod box_street;
+pub mod cabinet;
 pub mod controller;

@@ -1,2 +1,3 @@
+pub mod Kept
 pub mod Moving
-pub mod Using
+pub mod Steps

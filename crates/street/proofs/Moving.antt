@@ -10,16 +10,19 @@ use Rattle.street.specs.declared.standing.Standing.{Standing}
 use Rattle.street.specs.Street.{Seen, Bounded, Showed, lamps_after}
 use Rattle.street.specs.Standing.{seen_of, fresh_seen, answer_for, moved}
 
--- what is told of a capped state is the number or the bound
-pub tells : (b xs : List ℕ) → length b ≡ 64 → (p x y r : ℕ) → r ≡ min x y → x ≡ told xs p → y ≡ told b p → r ≡ told (capped b xs) p
-tells b xs n p x y r e f g = let h = told_capped b (omega arith) xs p in cc
-
 module _ (m : Meaning) (law : Lawful m) where
   few_tops : length m.tops ≤ 64
   few_tops = omega (arith, law.whole_tops)
 
   few_loads : length m.loads ≤ 64
   few_loads = omega (arith, law.whole_loads)
+
+  -- what is told of capped queues or arrivals is the number or the bound
+  pub told_top : (x : List ℕ) (p : ℕ) → told (capped m.tops x) p ≡ min (told x p) (told m.tops p)
+  told_top x p = told_capped m.tops few_tops x p
+
+  pub told_load : (x : List ℕ) (p : ℕ) → told (capped m.loads x) p ≡ min (told x p) (told m.loads p)
+  told_load x p = told_capped m.loads few_loads x p
 
   lamps_whole : (r : List ℕ) → length r ≡ 32 → length (lamps m r) ≡ 32
   lamps_whole r n = go (m.legal r)
@@ -72,14 +75,16 @@ module _ (m : Meaning) (law : Lawful m) where
   pub no_arrivals : capped m.loads (replicate 64 0) ≡ replicate 64 0
   no_arrivals = capped_own m.loads few_loads (replicate 64 0) (length-replicate {A = ℕ} 64 0) (λ k. omega (arith, slice_index_zeros 64 k))
 
-  pub fresh_is : (t : Standing) (queues : List ℕ) → t.queues ≡ queues → t.lamps ≡ dark_row m → t.arrivals ≡ replicate 64 0 → seen_of m t ≡ fresh_seen m queues
-  fresh_is t queues q l a =
+  -- what is seen before the first step
+  pub fresh_is : (queues dark : List ℕ) → dark ≡ dark_row m → ◌≡◌ {A = Seen} (record { queues = capped m.tops queues; lamps = lamps m dark; arrivals = capped m.loads (replicate 64 0) }) (fresh_seen m queues)
+  fresh_is queues dark l =
       let d = lamps_own (dark_row m) law.legal_dark in
       let z = no_arrivals in
       cc
 
-  pub after_is : (s t : Standing) (answer : Showing) (marked : Bool) (row lit queues v : List ℕ) → answer ≡ answer_for m marked row → lit ≡ lamps_after m answer row → queues ≡ m.next lit s.queues v → t.queues ≡ queues → t.lamps ≡ lit → t.arrivals ≡ v → seen_of m t ≡ moved m (answer_for m marked row) row (capped m.loads v) (seen_of m s)
-  after_is s t answer marked row lit queues v h k n q l a =
+  -- what is seen after one more step
+  pub after_is : (s : Standing) (marked : Bool) (row v : List ℕ) (answer : Showing) → answer ≡ answer_for m marked row → (lit : List ℕ) → lit ≡ lamps_after m answer row → (queues : List ℕ) → queues ≡ m.next lit s.queues v → ◌≡◌ {A = Seen} (record { queues = capped m.tops queues; lamps = lamps m lit; arrivals = capped m.loads v }) (moved m (answer_for m marked row) row (capped m.loads v) (seen_of m s))
+  after_is s marked row v answer h lit k queues n =
       let r = lamps_after m (answer_for m marked row) row in
       let d = lamps_own r (after_legal marked row) in
       let u = next_same r s.queues v in
@@ -87,11 +92,8 @@ module _ (m : Meaning) (law : Lawful m) where
       cc
 
   -- arrivals equal to the loads are not cut
-  loads_own : capped m.loads m.loads ≡ m.loads
+  pub loads_own : capped m.loads m.loads ≡ m.loads
   loads_own = capped_own m.loads few_loads m.loads law.whole_loads (λ k. le_refl _)
-
-  pub loaded_is : (answer : Showing) (row v : List ℕ) (s t : Seen) → v ≡ m.loads → t ≡ moved m answer row (capped m.loads v) s → t ≡ moved m answer row m.loads s
-  loaded_is answer row v s t h e = let o = loads_own in cc
 
   illegal_dark : (marked : Bool) (row : List ℕ) → m.legal row ≡ false → answer_for m marked row ≡ Dark
   illegal_dark true row e = refl

@@ -1,20 +1,15 @@
 -- Counted streets: each step uses up one group of arrivals.
-use Rattle.std.specs.Prelude.{ℕ, false, List, [], ◌∷◌, map, take, drop, replicate}
+use Rattle.std.specs.Prelude.{ℕ, false, List, [], ◌∷◌, replicate}
 use Rattle.model.specs.State.{capped}
 use Rattle.model.specs.Model.{Meaning}
 use Rattle.street.specs.declared.Showing.{Showing}
 use Rattle.street.specs.declared.groups.Group.{Group}
-use Rattle.street.specs.declared.groups.Groups.{Groups}
 use Rattle.street.specs.Street.{Seen}
 use Rattle.street.specs.Standing.{answer_for, moved}
 
 -- a step in which nothing arrives
 abbrev pub no_group : Group
 no_group = record { arrivals = replicate 64 0; dark = false }
-
--- what a list of groups has past its end
-abbrev pub blank : Group
-blank = record { arrivals = []; dark = false }
 
 -- the group of the next step
 abbrev pub first_of : List Group → Group
@@ -29,14 +24,6 @@ rest (g ∷ gs) = gs
 -- arrivals above a load count as that
 abbrev pub capped_group : Meaning → Group → Group
 capped_group m g = record { arrivals = capped m.loads g.arrivals; dark = g.dark }
-
--- the groups that are kept and not used up
-abbrev pub to_come : Groups → List Group
-to_come t = drop t.used (take t.kept t.table)
-
--- those groups, as they count
-abbrev pub left : Meaning → Groups → List Group
-left m t = map (capped_group m) (to_come t)
 
 -- the answer to a row, with these groups left
 abbrev pub counted_answer : Meaning → List ℕ → List Group → Showing

@@ -2,4 +2,5 @@ pub mod Street
 pub mod Standing
 pub mod Counted
 pub mod Careful
+pub mod Fed
 pub mod Views

@@ -1,33 +1,19 @@
 // Showing a row with care: only where no place can be held, whatever the street answers.
 ghost use Rattle.std.specs.Prelude.{◌≡◌};
-ghost use Rattle.street.specs.Careful.{is_clear, both_clear, Careful, Untouched};
+ghost use Rattle.street.specs.Careful.{both_clear, Careful, Untouched};
 
 use crate::queues::queues_of;
 use crate::{Showing, Street};
 use model::states::loads_of;
 use model::{Answer, Model};
 
-fn is_clear(answer: Answer) -> bool
-    ensures { result ≡ is_clear answer }
-{
-    match answer {
-        Answer::Clear => true,
-        Answer::Held(_, _) => false,
-    }
-}
-
-fn clears<M: Model>(model: &M, row: [u8; 32], queues: [u32; 64], loads: [u32; 64]) -> bool
-    ensures { result ≡ is_clear ((M.Model.meaning model.now).answer row queues loads) }
-{
-    is_clear(model.step(row, queues, loads).answer)
-}
-
 // Whether both the row and the dark row are clear under the greatest arrivals.
 fn both_clear<M: Model>(model: &M, row: [u8; 32], queues: [u32; 64]) -> bool
     ensures { result ≡ both_clear (M.Model.meaning model.now) row queues }
 {
     let loads = loads_of(model);
-    clears(model, row, queues, loads) && clears(model, model.dark(), queues, loads)
+    let clears = |row| model.step(row, queues, loads).answer == Answer::Clear;
+    clears(row) && clears(model.dark())
 }
 
 // Shows the row if no place can be held, and else does nothing.

@@ -1,22 +1,24 @@
-// Groups of counted arrivals, one for each step to come.
-ghost use Rattle.std.specs.Prelude.{◌≡◌, ◌≤◌, length};
+// Groups of arrivals.
+ghost use Rattle.std.specs.Prelude.{◌≡◌};
+ghost use Rattle.street.specs.Counted.{no_group};
 
 // What arrives at each place in one step, and whether that step is marked dark.
+// An array, since a street takes no memory.
 #[derive(Clone, Copy)]
 pub struct Group {
     pub arrivals: [u32; 64],
+    // a marked step brings arrivals as any other
     pub dark: bool,
 }
 
-// Up to 64 groups, of which the first so many are used up.
-#[derive(Clone, Copy)]
-pub struct Groups {
-    table: [Group; 64],
-    kept: usize,
-    used: usize,
-    ghost size: { length table ≡ 64 },
-    ghost few: { kept ≤ 64 },
-    ghost within: { used ≤ kept },
-}
+// A step in which nothing arrives.
+impl Default for Group {
+    ghost is_default = { λ g. g ≡ no_group };
 
-mod keeping;
+    fn default() -> Group {
+        Group {
+            arrivals: [0; 64],
+            dark: false,
+        }
+    }
+}

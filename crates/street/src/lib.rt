@@ -41,7 +41,9 @@ pub trait Street: Model {
 
 pub mod careful;
 pub mod counted;
+pub mod fed;
+pub mod feed;
 pub mod groups;
 pub mod heavy;
 pub mod queues;
-pub mod standing;
+mod standing;

@@ -1,16 +1,13 @@
-use Rattle.std.proofs.Common.{arith}
-use Rattle.model.proofs.State.{filled_none, told_more, told_all}
+use Rattle.std.proofs.Common.{rules, arith}
+use Rattle.model.proofs.Made.{told_made}
+use Rattle.street.specs.Street.{Bounded}
 use Rattle.street.proofs.queues.queues_of.Goals as goal
-
-pub loop-k-init : goal.loop-k-init
-loop-k-init g c = (filled_none _, λ h. absurd (omega arith))
-
-pub loop-k-preserved : goal.loop-k-preserved
-loop-k-preserved g c = (
-  told_more (g.S.Street.seen c.args.street.now).queues c.loop-k.k c.loop-k.queues c.queue_after.result (omega arith) c.queue_after.ensures.is c.loop-k.invariant.0,
-  λ h. c.queue_after.ensures.within.queues.size,
-)
 
 pub returns : goal.returns
 returns g c =
-    told_all (g.S.Street.seen c.args.street.now).queues c.loop-k.k c.loop-k.queues (c.loop-k.invariant.1 (omega arith)) (omega arith) c.loop-k.invariant.0
+    let s = c.args.street.now in
+    let seen = g.S.Street.seen s in
+    let items = c.from_fn.ensures.items in
+    let first = (items.at 0 0 (omega arith)).2 in
+    let within : Bounded (g.S.Model.meaning s) seen = search rules in
+    told_made _ seen.queues _ (λ i y q call. (search rules, search rules)) c.from_fn.result within.queues.size items
