@@ -1,1 +1,1 @@
-pub mod Detected
+pub mod Answers

@@ -1,5 +1,5 @@
 // A controller in its cabinet, which brings a street what its detectors count.
-ghost use Rattle.example_street.specs.Detected.{Detected};
+ghost use Rattle.example_street.specs.Answers.{answer_by};
 
 use crate::controller::Controller;
 use model::Model;
@@ -14,7 +14,8 @@ pub struct Cabinet<C> {
 }
 
 impl<C: Controller> Feed for Cabinet<C> {
-    ghost brings = { λ m row before g after. Detected C.Controller.sends C.Controller.counts row before.controller g after.controller };
+    // The row was sent, and the step is marked exactly if the controller answered that it is dark.
+    ghost brings = { λ m row before group after. C.Controller.sends before.controller row (answer_by group.dark) after.controller };
 
     fn bring<M: Model>(&mut self, _model: &M, row: [u8; 32]) -> Group {
         let answer = self.controller.send(row);

@@ -5,16 +5,13 @@ ghost use Rattle.street.specs.declared.Showing.{Showing};
 use street::Showing;
 
 pub trait Controller {
-    // what `send` may answer to a row, and `count` at a place; an `impl` that leaves them out promises nothing
-    ghost sends: { Self → List ℕ → Showing → Self → Type 0 } = { λ _ _ _ _. Unit {0} };
-
-    ghost counts: { Self → ℕ → ℕ → Type 0 } = { λ _ _ _. Unit {0} };
+    // what `send` may answer to a row, for the controller before and after; where it is left out, anything
+    ghost sends: { Self → List ℕ → Showing → Self → Type 0 } = { λ before row answer after. Unit {0} };
 
     // Sends a row to the lamps, and says whether they show it. A controller that does not take a row is dark.
     fn send(&mut self, row: [u8; 32]) -> Showing
         ensures { sends self.old row result self.new };
 
     // What the detector at a place counted since the row was sent. Places are numbered from 1.
-    fn count(&self, place: usize) -> u32
-        ensures { counts self.now place result };
+    fn count(&self, place: usize) -> u32;
 }

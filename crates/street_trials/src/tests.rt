@@ -7,105 +7,81 @@ mod heavy;
 mod questions;
 mod sheets;
 
+use std::array;
 use std::process::Abort;
-use std::test::Fail;
 use street::{Showing, Street};
 
-// One step: the modes that are given, whether they are shown, and then the queues, the lamps and the arrivals.
+// One step: the modes that are given, what is answered, and then the queues, the lamps and the arrivals.
 // All numbers beyond those are 0.
-pub type Shown = (
+pub type Step = (
     &'static [u8],
-    bool,
+    Showing,
     &'static [u32],
     &'static [u8],
     &'static [u32],
 );
 
-// A row that begins with these modes.
-pub(crate) fn row_of(modes: &[u8]) -> [u8; 32] {
-    let mut row = [0; 32];
-    for k in 0..32 {
-        if k < modes.len() {
-            row[k] = modes[k];
-        }
-    }
-    row
+// A row that begins with these modes, or a state that begins with these numbers.
+pub(crate) fn filled<T: Copy + Default, const N: usize>(numbers: &[T]) -> [T; N] {
+    array::from_fn(|k| numbers.get(k).copied().unwrap_or_default())
 }
 
-// A state that begins with these numbers.
-pub(crate) fn state_of(numbers: &[u32]) -> [u32; 64] {
-    let mut state = [0; 64];
-    for k in 0..64 {
-        if k < numbers.len() {
-            state[k] = numbers[k];
-        }
-    }
-    state
+// The number of a place or the mode of a signal, counted from 1, or 0.
+pub(crate) fn told<T: Copy + Default>(numbers: &[T], place: usize) -> T {
+    let number = numbers.get(place.wrapping_sub(1));
+    number.copied().unwrap_or_default()
 }
 
-// The number at a place, counted from 1, or 0.
-pub(crate) fn number_of(numbers: &[u32], place: usize) -> u32 {
-    let k = place.wrapping_sub(1);
-    if k < numbers.len() { numbers[k] } else { 0 }
-}
-
-// The mode of a signal, counted from 1, or 0.
-pub(crate) fn mode_of(modes: &[u8], signal: usize) -> u8 {
-    let k = signal.wrapping_sub(1);
-    if k < modes.len() { modes[k] } else { 0 }
-}
-
-fn check_places<S: Street>(rt: &impl Abort, street: &S, queues: &[u32], arrivals: &[u32]) {
+fn check_places<S: Street>(
+    rt: &impl Abort,
+    street: &S,
+    step: usize,
+    queues: &[u32],
+    arrivals: &[u32],
+) {
     for place in 0..70 {
-        let queue = number_of(queues, place);
-        assert_eq!(rt; street.queue(place), queue, "queue at {place}");
-        let arrival = number_of(arrivals, place);
-        assert_eq!(rt; street.arrival(place), arrival, "arrival at {place}");
+        let queue = told(queues, place);
+        assert_eq!(rt; street.queue(place), queue, "step {step}, queue at {place}");
+        let arrival = told(arrivals, place);
+        assert_eq!(rt;
+            street.arrival(place),
+            arrival,
+            "step {step}, arrival at {place}"
+        );
     }
 }
 
-fn check_lamps<S: Street>(rt: &impl Abort, street: &S, lamps: &[u8]) {
+fn check_lamps<S: Street>(rt: &impl Abort, street: &S, step: usize, lamps: &[u8]) {
     for signal in 0..40 {
-        let mode = mode_of(lamps, signal);
-        assert_eq!(rt; street.lamp(signal), mode, "lamp of {signal}");
+        let mode = told(lamps, signal);
+        assert_eq!(rt; street.lamp(signal), mode, "step {step}, lamp of {signal}");
     }
 }
 
-// Asks everywhere, and out of range: places 0 and 65 to 69, signals 0 and 33 to 39.
+// Asks everywhere after a step, counted from 1, or before the first, 0.
+// It asks out of range too: places 0 and 65 to 69, signals 0 and 33 to 39.
 pub(crate) fn check_stands<S: Street>(
     rt: &impl Abort,
     street: &S,
+    step: usize,
     queues: &[u32],
     lamps: &[u8],
     arrivals: &[u32],
-) -> Result<(), Fail> {
-    check_places(rt, street, queues, arrivals);
-    check_lamps(rt, street, lamps);
-    Ok(())
+) {
+    check_places(rt, street, step, queues, arrivals);
+    check_lamps(rt, street, step, lamps);
 }
 
-pub(crate) fn answer_of(shown: bool) -> Showing {
-    if shown { Showing::Shown } else { Showing::Dark }
-}
-
-pub(crate) fn try_step<S: Street>(
-    rt: &impl Abort,
-    street: &mut S,
-    step: &Shown,
-) -> Result<(), Fail> {
-    let (row, shown, queues, lamps, arrivals) = *step;
-    assert_eq!(rt; street.show(row_of(row)), answer_of(shown));
-    check_stands(rt, street, queues, lamps, arrivals)
+// The step of this number, counted from 1.
+pub(crate) fn try_step<S: Street>(rt: &impl Abort, street: &mut S, number: usize, step: &Step) {
+    let (row, answer, queues, lamps, arrivals) = *step;
+    assert_eq!(rt; street.show(filled(row)), answer, "step {number}");
+    check_stands(rt, street, number, queues, lamps, arrivals);
 }
 
 // Runs a table of rows on any street.
-pub(crate) fn try_steps<S: Street>(
-    rt: &impl Abort,
-    street: &mut S,
-    steps: &[Shown],
-) -> Result<(), Fail> {
-    for step in steps {
-        try_step(rt, street, step)?;
+pub(crate) fn try_steps<S: Street>(rt: &impl Abort, street: &mut S, steps: &[Step]) {
+    for (before, step) in steps.iter().enumerate() {
+        try_step(rt, street, before.saturating_add(1), step);
     }
-    Ok(())
 }

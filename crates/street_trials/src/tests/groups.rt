@@ -1,6 +1,6 @@
 // Groups for a counted street, and what becomes of the sixty-fifth.
+use crate::tests::filled;
 use crate::tests::sheets::{corridor, two_modes};
-use crate::tests::{row_of, state_of};
 use model::Model;
 use std::alloc::{AllocError, Global};
 use std::process::Abort;
@@ -13,15 +13,11 @@ use street::{Showing, Street};
 pub type Given = (&'static [u32], bool);
 
 pub(crate) fn groups_of(heap: Global, given: &[Given]) -> Result<Vec<Group>, AllocError> {
-    let mut groups = Vec::new(heap);
-    for (numbers, dark) in given {
-        let arrivals = state_of(numbers);
-        groups.push(Group {
-            arrivals,
-            dark: *dark,
-        })?;
-    }
-    Ok(groups)
+    let groups = given.iter().map(|(numbers, dark)| Group {
+        arrivals: filled(numbers),
+        dark: *dark,
+    });
+    groups.collect(heap)
 }
 
 // What group k, counted from 0, brings to place 1.
@@ -31,20 +27,16 @@ fn brought(k: u32) -> u32 {
 
 // So many groups; those past the first sixty-four are marked dark.
 fn many_groups(heap: Global, count: u32) -> Result<Vec<Group>, AllocError> {
-    let mut groups = Vec::new(heap);
-    for k in 0..count {
-        let arrivals = state_of(&[brought(k)]);
-        groups.push(Group {
-            arrivals,
-            dark: k >= 64,
-        })?;
-    }
-    Ok(groups)
+    let groups = (0..count).map(|k| Group {
+        arrivals: filled(&[brought(k)]),
+        dark: k >= 64,
+    });
+    groups.collect(heap)
 }
 
 // One step in which nothing is let out.
 fn try_red<S: Street>(rt: &impl Abort, street: &mut S, arrival: u32, queue: u32) {
-    assert_eq!(rt; street.show(row_of(&[])), Showing::Shown);
+    assert_eq!(rt; street.show(filled(&[])), Showing::Shown);
     assert_eq!(rt; street.arrival(1), arrival);
     assert_eq!(rt; street.queue(1), queue);
 }
@@ -65,7 +57,7 @@ fn try_rounds<M: Model>(rt: &impl Abort, street: &mut CountedStreet<M>) {
 fn try_many<M: Model + Drop>(rt: &impl Abort, heap: Global, model: M) -> Result<(), Fail> {
     let groups = many_groups(heap, 65)?;
     assert_eq!(rt; groups.len(), 65);
-    let mut street = CountedStreet::new(model, state_of(&[]), groups.as_slice());
+    let mut street = CountedStreet::new(model, filled(&[]), groups.as_slice());
     try_rounds(rt, &mut street);
     assert_eq!(rt; street.groups_left(), 0);
     try_red(rt, &mut street, 0, 96);
@@ -87,9 +79,9 @@ fn linear_sixty_five(rt: HostRuntime) -> Result<(), Fail> {
 #[test]
 fn kept_groups(rt: HostRuntime) -> Result<(), Fail> {
     let all = many_groups(rt.alloc(), 64)?;
-    let full = CountedStreet::new(corridor(rt.alloc())?, state_of(&[]), all.as_slice());
+    let full = CountedStreet::new(corridor(rt.alloc())?, filled(&[]), all.as_slice());
     assert_eq!(rt; full.groups_left(), 64);
-    let bare = CountedStreet::new(corridor(rt.alloc())?, state_of(&[]), &[]);
+    let bare = CountedStreet::new(corridor(rt.alloc())?, filled(&[]), &[]);
     assert_eq!(rt; bare.groups_left(), 0);
     Ok(())
 }

@@ -1,6 +1,6 @@
 // The model's questions asked of a street: it answers as its model does.
 use crate::tests::sheets::{corridor, two_modes};
-use crate::tests::{number_of, row_of, state_of};
+use crate::tests::{filled, told};
 use model::{Answer, Cause, Model};
 use std::process::Abort;
 use std::test::Fail;
@@ -75,23 +75,17 @@ const LINEAR: [Stepped; 3] = [
 // The tops and the loads, in and out of range.
 fn check_numbers<M: Model>(rt: &impl Abort, model: &M, tops: &[u32], loads: &[u32]) {
     for place in 0..70 {
-        assert_eq!(rt; model.top(place), number_of(tops, place));
-        assert_eq!(rt; model.load(place), number_of(loads, place));
-    }
-}
-
-fn check_next(rt: &impl Abort, next: &[u32; 64], expected: &[u32]) {
-    for k in 0..64 {
-        assert_eq!(rt; next[k], number_of(expected, k + 1));
+        assert_eq!(rt; model.top(place), told(tops, place), "top of {place}");
+        assert_eq!(rt; model.load(place), told(loads, place), "load of {place}");
     }
 }
 
 fn check_steps<M: Model>(rt: &impl Abort, model: &M, steps: &[Stepped]) {
-    for step in steps {
+    for (k, step) in steps.iter().enumerate() {
         let (row, state, arrivals, next, answer) = *step;
-        let made = model.step(row_of(row), state_of(state), state_of(arrivals));
-        check_next(rt, &made.next, next);
-        assert_eq!(rt; made.answer, answer);
+        let made = model.step(filled(row), filled(state), filled(arrivals));
+        assert_eq!(rt; made.next, filled(next), "step {k}");
+        assert_eq!(rt; made.answer, answer, "step {k}");
     }
 }
 
@@ -99,10 +93,10 @@ fn check_corridor<M: Model>(rt: &impl Abort, model: &M) {
     assert_eq!(rt; model.places(), 3);
     assert_eq!(rt; model.signals(), 2);
     check_numbers(rt, model, &[200, 100, 200], &[20, 0, 10]);
-    assert!(rt; model.legal(row_of(&[2, 2])));
-    assert!(rt; !model.legal(row_of(&[2, 3])));
-    assert!(rt; !model.legal(row_of(&[1, 1, 1])));
-    assert!(rt; model.dark() == row_of(&[]));
+    assert!(rt; model.legal(filled(&[2, 2])));
+    assert!(rt; !model.legal(filled(&[2, 3])));
+    assert!(rt; !model.legal(filled(&[1, 1, 1])));
+    assert!(rt; model.dark() == filled(&[]));
     check_steps(rt, model, &NETWORK);
 }
 
@@ -110,20 +104,17 @@ fn check_two_modes<M: Model>(rt: &impl Abort, model: &M) {
     assert_eq!(rt; model.places(), 2);
     assert_eq!(rt; model.signals(), 1);
     check_numbers(rt, model, &[100000, 100000], &[200, 100]);
-    assert!(rt; model.legal(row_of(&[2])));
-    assert!(rt; !model.legal(row_of(&[3])));
-    assert!(rt; !model.legal(row_of(&[0, 1])));
-    assert!(rt; model.dark() == row_of(&[]));
+    assert!(rt; model.legal(filled(&[2])));
+    assert!(rt; !model.legal(filled(&[3])));
+    assert!(rt; !model.legal(filled(&[0, 1])));
+    assert!(rt; model.dark() == filled(&[]));
     check_steps(rt, model, &LINEAR);
 }
 
 #[test]
 fn heavy_questions(rt: HostRuntime) -> Result<(), Fail> {
-    check_corridor(&rt, &HeavyStreet::new(corridor(rt.alloc())?, state_of(&[])));
-    check_two_modes(
-        &rt,
-        &HeavyStreet::new(two_modes(rt.alloc())?, state_of(&[])),
-    );
+    check_corridor(&rt, &HeavyStreet::new(corridor(rt.alloc())?, filled(&[])));
+    check_two_modes(&rt, &HeavyStreet::new(two_modes(rt.alloc())?, filled(&[])));
     Ok(())
 }
 
@@ -131,11 +122,11 @@ fn heavy_questions(rt: HostRuntime) -> Result<(), Fail> {
 fn counted_questions(rt: HostRuntime) -> Result<(), Fail> {
     check_corridor(
         &rt,
-        &CountedStreet::new(corridor(rt.alloc())?, state_of(&[]), &[]),
+        &CountedStreet::new(corridor(rt.alloc())?, filled(&[]), &[]),
     );
     check_two_modes(
         &rt,
-        &CountedStreet::new(two_modes(rt.alloc())?, state_of(&[]), &[]),
+        &CountedStreet::new(two_modes(rt.alloc())?, filled(&[]), &[]),
     );
     Ok(())
 }

@@ -1,9 +1,9 @@
 // The two models that the streets are tried over, read from their sheets.
 use linear::linear::Linear;
-use linear_sheet::read::read_linear;
-use model_sheet::ModelRead;
+use linear_sheet::read::LinearSheet;
+use model_sheet::ModelSheet;
 use network::network::Network;
-use network_sheet::read::read_network;
+use network_sheet::read::NetworkSheet;
 use std::alloc::Global;
 use std::test::Fail;
 
@@ -15,28 +15,17 @@ const CORRIDOR: &str =
 const TWO_MODES: &str =
     "modes 2 places 2 100000 200 100000 100 entries 8 150 10 20 50 70 10 10 110 limits 1 45600 2 1 1 2 1";
 
-pub(crate) fn corridor(heap: Global) -> Result<Network, Fail> {
-    match read_network(heap, CORRIDOR.as_bytes()) {
-        Ok(
-            ModelRead {
-                model,
-                limits: _,
-                end: _,
-            },
-        ) => Ok(model),
-        Err(_) => Err(Fail::new("the network sheet is not read")),
+fn model_of<S: ModelSheet>(heap: Global, sheet: &str) -> Result<S::Made, Fail> {
+    match S::read(heap, sheet.as_bytes()) {
+        Ok(read) => Ok(read.model),
+        Err(_) => Err(Fail::new("the model sheet is not read")),
     }
 }
 
+pub(crate) fn corridor(heap: Global) -> Result<Network, Fail> {
+    model_of::<NetworkSheet>(heap, CORRIDOR)
+}
+
 pub(crate) fn two_modes(heap: Global) -> Result<Linear, Fail> {
-    match read_linear(heap, TWO_MODES.as_bytes()) {
-        Ok(
-            ModelRead {
-                model,
-                limits: _,
-                end: _,
-            },
-        ) => Ok(model),
-        Err(_) => Err(Fail::new("the linear sheet is not read")),
-    }
+    model_of::<LinearSheet>(heap, TWO_MODES)
 }
