@@ -1,13 +1,20 @@
 -- Values written over a table.
-use Rattle.std.proofs.Common.{◌≡◌, ℕ, ◌+◌, ◌<◌, ◌≤◌, List, [], ◌∷◌, ◌++◌, length, get_or, take, drop, set, sym, refl, ap, ◌∙◌, append_assoc, arith}
-use Rattle.std.proofs.lemmas.List.{at_drop_more, at_drop_all, take_more_set, append-nil, length-set}
+use Rattle.std.proofs.Common.{◌≡◌, ℕ, ◌+◌, ◌≤◌, List, [], ◌∷◌, ◌++◌, length, take, drop, set, sym, refl, ap, ◌∙◌, append_assoc, arith}
+use Rattle.std.proofs.lemmas.List.{take_more_set, take-append-drop, drop-set-lt, append-nil, length-set}
 use Rattle.words.specs.Tables.{written}
 
-pub written_more : {A : Type 0} (xs vs : List A) (i : ℕ) (d : A) → i < length vs → written xs i (drop i vs) ≡ written (set xs i (get_or vs i d)) (i + 1) (drop (i + 1) vs)
-written_more xs vs i d h = at_drop_more (written xs i) vs i d h
+-- values written from k on, between what stood before them and what stands from n on
+written_within : {A : Type 0} (xs vs : List A) (k n : ℕ) → n ≡ k + length vs → n ≤ length xs → take k xs ++ (vs ++ drop n xs) ≡ written xs k vs
+written_within xs [] k n e h = let z : n ≡ k = omega arith in ap (λ i. take k xs ++ drop i xs) z ∙ take-append-drop k xs
+written_within xs (v ∷ vs) k n e h =
+    sym (append_assoc (take k xs) (v ∷ []) (vs ++ drop n xs))
+    ∙ ap (λ ys. ys ++ (vs ++ drop n xs)) (sym (take_more_set xs k v (omega arith)))
+    ∙ ap (λ ys. take (k + 1) (set xs k v) ++ (vs ++ ys)) (sym (drop-set-lt n xs k v (omega arith)))
+    ∙ written_within (set xs k v) vs (k + 1) n (omega arith) (omega (arith, length-set xs k v))
 
-pub written_all : {A : Type 0} (xs vs : List A) (i : ℕ) → length vs ≤ i → written xs i (drop i vs) ≡ xs
-written_all xs vs i h = at_drop_all (written xs i) vs i h
+-- values written from the start, before what stands beyond them
+pub written_front : {A : Type 0} (xs vs : List A) → length vs ≤ length xs → vs ++ drop (length vs) xs ≡ written xs 0 vs
+written_front xs vs h = written_within xs vs 0 (length vs) (omega arith) h
 
 -- one value more
 pub written_push : {A : Type 0} (xs vs : List A) (i : ℕ) (v : A) → written xs i (vs ++ (v ∷ [])) ≡ set (written xs i vs) (i + length vs) v

@@ -1,5 +1,6 @@
 -- The words of a sheet. A word is a run of bytes that are not separators, and each of its bytes has to be printable.
 use Rattle.std.specs.Prelude.{◌≡◌, ℕ, ◌+◌, ◌≤◌, Bool, true, cond, not, ◌&&◌, ◌||◌, List, [], ◌∷◌, length, drop, Ok, Err, Result, ◌==◌, nat_le, nat_lt, slice_index, slice_range}
+use Rattle.std.specs.List.{list_all}
 use Rattle.refusal.specs.Questions.{Told, no, then}
 use Rattle.words.specs.declared.fault.SheetFault.{SheetFault}
 use Rattle.words.specs.declared.word.Word.{Word}
@@ -16,6 +17,10 @@ separator b = b == 32 || b == 10
 abbrev pub printable : ℕ → Bool
 printable b = nat_le 32 b && nat_le b 126
 
+-- a byte at which a word ends, or that may not stand in one
+abbrev pub stop : ℕ → Bool
+stop b = separator b || not (printable b)
+
 -- the place of the first byte that is no separator, where the bytes begin at place p
 abbrev pub skipped : List ℕ → ℕ → ℕ
 skipped [] p = p
@@ -31,8 +36,7 @@ abbrev pub digit : ℕ → Bool
 digit b = nat_le 48 b && nat_le b 57
 
 abbrev pub digits : List ℕ → Bool
-digits [] = true
-digits (b ∷ bs) = digit b && digits bs
+digits bs = list_all digit bs
 
 -- 1 to 9 digits with no needless zero in front
 abbrev pub numeral : List ℕ → Bool

@@ -13,9 +13,7 @@ fn letters_of(text: &[u8]) -> [u8; 8]
     ensures { result ≡ tabled 8 text.now }
 {
     let mut letters = [0; 8];
-    for (i, b) in text.iter().enumerate() {
-        letters[i] = *b;
-    }
+    letters[..text.len()].copy_from_slice(text);
     letters
 }
 
@@ -23,10 +21,7 @@ fn letters_of(text: &[u8]) -> [u8; 8]
 pub fn name(bytes: &[u8], at: usize) -> Result<Reading<[u8; 8]>, SheetFault>
     ensures { told result ≡ name_at bytes.now at }
 {
-    let (text, place) = match next_word(bytes, at)? {
-        Word::Number(text, place) => (text, place),
-        Word::Name(text, place) => (text, place),
-    };
+    let (Word::Number(text, place) | Word::Name(text, place)) = next_word(bytes, at)?;
     if text.len() > 8 {
         return Err(SheetFault::OutOfRange(place));
     }

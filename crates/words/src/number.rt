@@ -28,7 +28,7 @@ pub fn number(bytes: &[u8], at: usize, low: u32, high: u32) -> Result<Reading<u3
     match next_word(bytes, at)? {
         Word::Number(text, place) => {
             let value = value_of(text);
-            if value < low || value > high {
+            if !(low..=high).contains(&value) {
                 return Err(SheetFault::OutOfRange(place));
             }
             Ok(Reading {
@@ -46,12 +46,7 @@ pub fn section(bytes: &[u8], at: usize, name: &[u8]) -> Result<usize, SheetFault
     ensures { told result ≡ section_at bytes.now at name.now }
 {
     match next_word(bytes, at)? {
-        Word::Name(text, place) => {
-            if text == name {
-                return Ok(place + text.len());
-            }
-            Err(SheetFault::WrongSection(place))
-        }
-        Word::Number(_, place) => Err(SheetFault::WrongSection(place)),
+        Word::Name(text, place) if text == name => Ok(place + text.len()),
+        Word::Name(_, place) | Word::Number(_, place) => Err(SheetFault::WrongSection(place)),
     }
 }

@@ -1,11 +1,12 @@
 // The words of a sheet: runs of bytes between separators.
-ghost use Rattle.std.specs.Prelude.{◌≡◌, drop};
+// A reader takes the bytes and a place, and answers where it ended: a cursor that it moved would have to be put back wherever it refuses.
+ghost use Rattle.std.specs.Prelude.{◌≡◌, drop, position};
 ghost use Rattle.words.specs.Faults.{told};
-ghost use Rattle.words.specs.Words.{short_sheet, separator, printable, skipped, ended, digit, digits, numeral, shown, word_at, Sound};
+ghost use Rattle.words.specs.Words.{short_sheet, separator, printable, stop, skipped, ended, digit, digits, numeral, shown, word_at, Sound};
 
 use crate::fault::SheetFault;
 
-// A word, by its bytes and the place of the first of them.
+// A word, by its bytes and the place of the first of them. What may be made of it goes by its kind, so each kind is a case.
 #[derive(Clone, Copy)]
 pub enum Word<'a> {
     // 1 to 9 digits with no needless zero in front
@@ -24,65 +25,64 @@ pub fn short_enough(bytes: &[u8]) -> Result<(), SheetFault>
     Ok(())
 }
 
+// The bytes from a place on; none beyond the last.
+pub fn rest_of(bytes: &[u8], at: usize) -> &[u8]
+    ensures { result.now ≡ drop at bytes.now }
+{
+    bytes.get(at..).unwrap_or(&[])
+}
+
 fn separates(b: u8) -> bool
     ensures { result ≡ separator b }
 {
-    b == 32 || b == 10
+    matches!(b, b' ' | b'\n')
 }
 
 fn prints(b: u8) -> bool
     ensures { result ≡ printable b }
 {
-    b >= 32 && b <= 126
+    matches!(b, b' '..=b'~')
 }
 
 // The first byte from `at` on that is no separator.
 fn first_byte(bytes: &[u8], at: usize) -> usize
     ensures { result ≡ skipped (drop at bytes.now) at }
 {
-    let mut place = at;
-    while place < bytes.len() && separates(bytes[place]) {
-        place += 1;
-    }
-    place
+    let rest = rest_of(bytes, at);
+    let gap = rest.iter().position(|b| !separates(*b));
+    at + gap.unwrap_or(rest.len())
+}
+
+// Where the first byte stands at which a word ends, or that may not stand in one.
+fn first_stop(rest: &[u8]) -> Option<usize>
+    ensures { result ≡ position stop rest.now }
+{
+    rest.iter().position(|b| separates(*b) || !prints(*b))
 }
 
 // Where the word that begins at `place` ends.
 fn word_end(bytes: &[u8], place: usize) -> Result<usize, SheetFault>
     ensures { told result ≡ ended (drop place bytes.now) place }
 {
-    let mut end = place;
-    while end < bytes.len() && !separates(bytes[end]) {
-        if !prints(bytes[end]) {
-            return Err(SheetFault::BadByte(end));
-        }
-        end += 1;
+    let rest = rest_of(bytes, place);
+    match first_stop(rest) {
+        Some(n) if !separates(rest[n]) => Err(SheetFault::BadByte(place + n)),
+        Some(n) => Ok(place + n),
+        None => Ok(place + rest.len()),
     }
-    Ok(end)
-}
-
-fn is_digit(b: u8) -> bool
-    ensures { result ≡ digit b }
-{
-    b >= 48 && b <= 57
 }
 
 fn all_digits(text: &[u8]) -> bool
     ensures { result ≡ digits text.now }
 {
-    for b in text {
-        if !is_digit(*b) {
-            return false;
-        }
-    }
-    true
+    text.iter().all(u8::is_ascii_digit)
 }
 
 // 1 to 9 digits with no needless zero in front.
 fn is_numeral(text: &[u8]) -> bool
     ensures { result ≡ numeral text.now }
 {
-    all_digits(text) && text.len() >= 1 && text.len() <= 9 && (text.len() <= 1 || text[0] != 48)
+    all_digits(text) && !text.is_empty() && text.len() <= 9 && (text.len() <= 1 || text[0] != b'0')
 }
 
 // The next word from `at` on.
