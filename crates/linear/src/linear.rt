@@ -5,7 +5,8 @@ ghost use Rattle.std.specs.Prelude.{◌≡◌, ◌*◌, ◌≤◌, length};
 use crate::place::Place;
 
 // An entry says what part of one place's value goes over into another's, in hundredths.
-// They follow one another by mode, line and column, with a line and a column for each place.
+// They follow one another by mode, line and column, with a line and a column for each place: one list, as a sheet writes them,
+// of which each line is a slice.
 // No number of a linear model is out of its range.
 #[derive(Drop)]
 pub struct Linear {

@@ -3,4 +3,4 @@ pub mod Answers
 pub mod Core
 pub mod Made
 pub mod Chains
-pub mod Items
+pub mod Numbers

@@ -1,7 +1,7 @@
 // Code on states and rows that models share.
 ghost use Rattle.std.specs.Prelude.{◌≡◌, ◌+◌, ◌<◌, min, nat_le, nat_lt, slice_index};
 ghost use Rattle.model.specs.State.{capped, fits_row, told, lowest_above};
-ghost use Rattle.model.specs.Model.{lamps};
+ghost use Rattle.model.specs.Model.{lamps, lit};
 
 use crate::Model;
 use std::array;
@@ -78,4 +78,15 @@ pub fn lamps_of<M: Model>(model: &M, row: [u8; 32]) -> [u8; 32]
     ensures { result ≡ lamps (M.Model.meaning model.now) row }
 {
     if model.legal(row) { row } else { model.dark() }
+}
+
+// The row that counts among these modes: mode 0 at every signal in place of an illegal one.
+pub fn lamps_among(modes: &[u8], row: [u8; 32]) -> [u8; 32]
+    ensures { result ≡ lit modes.now row }
+{
+    if fits_modes(modes, &row) {
+        row
+    } else {
+        [0; 32]
+    }
 }

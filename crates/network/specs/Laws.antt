@@ -48,7 +48,7 @@ module _ (n : Roads) (ok : Sound n) where
         whole_loads = length_loads n;
         low_tops = λ k h. omega (arith, slice_index_tops n ok k, (ok.linked k h).1.0);
         high_tops = top_high n ok;
-        end_tops = λ k h. omega (arith, slice_index_tops n ok k, top_past n k h);
+        end_tops = top_past n ok;
         loads_in_tops = load_top n ok;
         whole_moved = whole_moved;
         within = within;

@@ -2,11 +2,11 @@
 use Rattle.std.specs.Prelude.{◌≡◌, ℕ, ◌-◌, ◌<◌, ◌≤◌, List, length, slice_index, Option, MatchOption}
 use Rattle.std.specs.Slice.{IsItemAt}
 use denote.Ref.{Bor}
-use Rattle.std.proofs.Common.{sym, ap, subst, ◌∙◌, arith}
+use Rattle.std.proofs.Common.{refl, sym, ap, subst, ◌∙◌, arith}
 use Rattle.model.specs.State.{capped, told}
 use Rattle.model.specs.Model.{lit}
 use Rattle.model.proofs.State.{capped_below, told_at, told_none}
-use Rattle.model.proofs.Items.{item_told}
+use Rattle.model.proofs.Numbers.{number_told}
 use Rattle.network.specs.declared.links.Link.{Link}
 use Rattle.network.specs.declared.network.Network.{Network}
 use Rattle.network.specs.Code.{roads}
@@ -14,7 +14,7 @@ use Rattle.network.specs.Sound.{no_link}
 use Rattle.network.specs.Network.{Roads, Sound, tops, loads, release, releases, let_out, LetsOut, Greatest}
 use Rattle.network.specs.Parts.{Ready}
 use Rattle.network.specs.Easing.{release_greatest}
-use Rattle.network.specs.Sizes.{length_tops, length_loads, top_high, load_top, wish_le, slice_index_tops, slice_index_loads, slice_index_releases, release_past}
+use Rattle.network.specs.Sizes.{length_tops, length_loads, top_high, load_top, wish_le, slice_index_releases, release_past}
 
 pub sound : (m : Network) → Sound (roads m)
 sound m = record { phased = m.phased; some = m.some; few = m.few; linked = m.linked; short = m.short; turned = m.turned }
@@ -26,10 +26,12 @@ release_outside n ok p h r q =
 -- what is told of the link that stands at index k, where one does
 module _ (n : Roads) (ok : Sound n) (p k : ℕ) (h : 1 ≤ p) (i : k ≡ p - 1) (l : Option (Bor Link)) (e : IsItemAt n.links k l) where
   pub top_told : MatchOption l (told (tops n) p ≡ 0) (λ x. x.now.top ≡ told (tops n) p)
-  top_told = item_told n.links no_link k l e (λ x. x.top) (told (tops n) p) (rw i (sym (slice_index_tops n ok (p - 1)) ∙ sym (told_at (tops n) p h)))
+  unfolding tops
+  top_told = number_told n.links no_link ok.few (λ x. x.top) refl p k h i l e
 
   pub load_told : MatchOption l (told (loads n) p ≡ 0) (λ x. x.now.load ≡ told (loads n) p)
-  load_told = item_told n.links no_link k l e (λ x. x.load) (told (loads n) p) (rw i (sym (slice_index_loads n ok (p - 1)) ∙ sym (told_at (loads n) p h)))
+  unfolding loads
+  load_told = number_told n.links no_link ok.few (λ x. x.load) refl p k h i l e
 
 pub ready : (n : Roads) → Sound n → (r x v o q w : List ℕ) → o ≡ releases n r q → q ≡ capped (tops n) x → w ≡ capped (loads n) v → Ready o q w
 ready n ok r x v o q w a b c =

@@ -1,42 +1,24 @@
 // A linear model is a model.
-ghost use Rattle.std.specs.Prelude.{◌≡◌, [], ◌∷◌, replicate};
-ghost use Rattle.model.specs.Model.{lit, stepped};
+ghost use Rattle.std.specs.Prelude.{◌≡◌};
+ghost use Rattle.model.specs.Model.{stepped};
 ghost use Rattle.linear.specs.Code.{lines};
 ghost use Rattle.linear.specs.Lines.{linear, cut_off, ClearWhereFits};
 ghost use Rattle.linear.specs.Laws;
 ghost use Rattle.linear.specs.Ranges.{sound};
 
 use super::Linear;
-use model::states::{capped_by, fits_modes, lowest_place_above};
+use model::states::{capped_by, fits_modes, lamps_among, lowest_place_above};
 use model::{Answer, Cause, Model as QueueModel, Step};
+use std::array;
 
 // One signal has all the modes.
 const SIGNALS: usize = 1;
-
-// The row with mode 0.
-fn all_dark() -> [u8; 32]
-    ensures { result ≡ replicate 32 0 }
-{
-    [0; 32]
-}
 
 // What a step says of the lowest place that its top cuts off.
 fn verdict(lowest: Option<usize>) -> Answer
     ensures { result ≡ cut_off lowest }
 {
-    match lowest {
-        Some(place) => Answer::Held(place, Cause::Overflow),
-        None => Answer::Clear,
-    }
-}
-
-impl Linear {
-    // The row that counts: mode 0 in place of an illegal one.
-    fn lit(&self, row: [u8; 32]) -> [u8; 32]
-        ensures { result ≡ lit (self.now.modes ∷ []) row }
-    {
-        if self.legal(row) { row } else { all_dark() }
-    }
+    lowest.map_or(Answer::Clear, |place| Answer::Held(place, Cause::Overflow))
 }
 
 impl QueueModel for Linear {
@@ -53,25 +35,20 @@ impl QueueModel for Linear {
     }
 
     fn top(&self, place: usize) -> u32 {
-        match self.place_of(place) {
-            Some(found) => found.top,
-            None => 0,
-        }
+        self.place(place).map_or(0, |found| found.top)
     }
 
     fn load(&self, place: usize) -> u32 {
-        match self.place_of(place) {
-            Some(found) => found.load,
-            None => 0,
-        }
+        self.place(place).map_or(0, |found| found.load)
     }
 
     fn legal(&self, row: [u8; 32]) -> bool {
         fits_modes(&[self.modes], &row)
     }
 
+    #[tactic(auto, unfolding(model::specs::Model::dark_row))]
     fn dark(&self) -> [u8; 32] {
-        all_dark()
+        [0; 32]
     }
 
     // Clear exactly where no top cuts a value off.
@@ -79,10 +56,12 @@ impl QueueModel for Linear {
         ensures is { result ≡ stepped (linear (lines self.now)) row state arrivals }
         ensures clear_where_fits { ClearWhereFits (lines self.now) row state arrivals result.answer }
     {
-        let tops = self.tops();
+        // `tops_of` and `loads_of` ask a whole model, of which a step is a part.
+        let tops = array::from_fn(|k| self.top(k + 1));
+        let loads = array::from_fn(|k| self.load(k + 1));
         let values = capped_by(&tops, &state);
-        let coming = capped_by(&self.loads(), &arrivals);
-        let lamps = self.lit(row);
+        let coming = capped_by(&loads, &arrivals);
+        let lamps = lamps_among(&[self.modes], row);
         let amounts = self.amounts(lamps[0], &values, &coming);
         let next = capped_by(&tops, &amounts);
         let answer = verdict(lowest_place_above(&amounts, &tops));

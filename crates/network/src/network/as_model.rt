@@ -1,6 +1,6 @@
 // A network is a model.
-ghost use Rattle.std.specs.Prelude.{◌≡◌, replicate};
-ghost use Rattle.model.specs.Model.{lit, stepped};
+ghost use Rattle.std.specs.Prelude.{◌≡◌};
+ghost use Rattle.model.specs.Model.{stepped};
 ghost use Rattle.network.specs.Code.{roads};
 ghost use Rattle.network.specs.Network.{network, ClearWhereFlows};
 ghost use Rattle.network.specs.Laws;
@@ -8,19 +8,9 @@ ghost use Rattle.network.specs.Ranges.{sound};
 
 use super::Network;
 use super::held::Outcome;
-use model::states::{capped_by, fits_modes};
+use model::states::{capped_by, fits_modes, lamps_among};
 use model::{Model as QueueModel, Step};
-
-impl Network {
-    // The row that counts: all red in place of an illegal one.
-    // A step is a part of the model, so it cannot ask `lamps_of`, which is about a whole model.
-    #[tactic(auto, using(model::proofs::Core::dark_is))]
-    pub(super) fn lit(&self, row: [u8; 32]) -> [u8; 32]
-        ensures { result ≡ lit self.now.phases.items row }
-    {
-        if self.legal(row) { row } else { self.dark() }
-    }
-}
+use std::array;
 
 impl QueueModel for Network {
     ghost meaning = { λ m. network (roads m) };
@@ -57,20 +47,23 @@ impl QueueModel for Network {
         ensures is { result ≡ stepped (network (roads self.now)) row state arrivals }
         ensures clear_where_flows { ClearWhereFlows (roads self.now) row state arrivals result.answer }
     {
-        let tops = self.tops();
+        // `tops_of` and `loads_of` ask a whole model, of which a step is a part.
+        let tops = array::from_fn(|k| self.top(k + 1));
+        let loads = array::from_fn(|k| self.load(k + 1));
+        let lamps = lamps_among(&self.phases, row);
         let queues = capped_by(&tops, &state);
-        let coming = capped_by(&self.loads(), &arrivals);
-        let wishes = self.wishes(&self.lit(row), &queues);
+        let coming = capped_by(&loads, &arrivals);
+        let wishes = self.wishes(&lamps, &queues);
         let out = self.releases(&wishes, &queues);
         let amounts = self.amounts(&out, &queues, &coming);
         let next = capped_by(&tops, &amounts);
-        let answer = Outcome {
+        let outcome = Outcome {
             wishes,
             out,
             amounts,
             tops,
-        }
-        .lowest_held(self.places());
+        };
+        let answer = outcome.lowest_held(self.places());
         Step { next, answer }
     }
 }

@@ -6,6 +6,7 @@ ghost use Rattle.network.specs.Network.{verdict_at};
 use model::{Answer, Cause};
 
 // What a step works out for each link: its wish, its release, its amount and its top.
+// Each stays a whole state, since the next state is made of the amounts and the tops as they are.
 #[derive(Clone, Copy)]
 pub(super) struct Outcome {
     pub(super) wishes: [u32; 64],

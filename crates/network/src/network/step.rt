@@ -8,7 +8,6 @@ ghost use Rattle.network.specs.Parts.{eased, Ready};
 
 use super::Network;
 use crate::links::{Link, Turn};
-use model::Model as QueueModel;
 use std::array;
 
 impl Network {
@@ -18,20 +17,6 @@ impl Network {
         ensures load { MatchOption result (told (loads (roads self.now)) place ≡ 0) (λ l. l.now.load ≡ told (loads (roads self.now)) place) }
     {
         self.links.get(place.checked_sub(1)?)
-    }
-
-    // The top of each link.
-    pub(super) fn tops(&self) -> [u32; 64]
-        ensures { result ≡ tops (roads self.now) }
-    {
-        array::from_fn(|k| self.top(k + 1))
-    }
-
-    // The load of each link.
-    pub(super) fn loads(&self) -> [u32; 64]
-        ensures { result ≡ loads (roads self.now) }
-    {
-        array::from_fn(|k| self.load(k + 1))
     }
 }
 

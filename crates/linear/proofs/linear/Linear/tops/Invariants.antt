@@ -1,7 +1,0 @@
-use Rattle.model.specs.State.{Filled}
-use Rattle.linear.specs.Code.{lines}
-use Rattle.linear.specs.Lines.{place}
-use Rattle.linear.proofs.linear.Linear.tops.Given as goal
-
-abbrev pub invariant-loop-k : goal.invariant-loop-k
-invariant-loop-k l = Filled (λ j. (place (lines l.self) j).top) l.k l.tops
