@@ -54,16 +54,12 @@ fn next_mode(
 fn read_modes<M: Model>(model: &M, bytes: &[u8], at: usize) -> Result<Reading<[u8; 32]>, SheetFault>
     ensures { told result ≡ modes_at (M.Model.meaning model.now) bytes.now at }
 {
-    let signals = model.signals();
-    let mut row = Reading {
+    let none = Reading {
         value: [0; 32],
         place: at,
         end: at,
     };
-    for k in 0..signals {
-        row = next_mode(bytes, k, row)?;
-    }
-    Ok(row)
+    (0..model.signals()).try_fold(none, |row, k| next_mode(bytes, k, row))
 }
 
 // A row: a mode for each signal; at the last one, the row has to be legal.

@@ -60,6 +60,7 @@ fn read_records<R: Record>(
 }
 
 // So many records, but at most N, as a table; beyond the last of them it holds `rest`.
+// A loop over places: each record is read beside those before it, and from where the last of them ended.
 pub fn read_table<R: Record, const N: usize>(
     kind: &R,
     bytes: &[u8],

@@ -4,3 +4,4 @@ pub mod Written
 pub mod Spelled
 pub mod Due
 pub mod Filling
+pub mod Folding

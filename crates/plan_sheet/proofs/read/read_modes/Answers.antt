@@ -1,12 +1,12 @@
-use Rattle.std.proofs.Common.{sym, ◌∙◌}
-use Rattle.std.proofs.lemmas.Result.{err_from_is_err_and}
-use Rattle.refusal.proofs.Turning.{turns_more, turns_stop}
+use Rattle.std.proofs.Common.{◌≡◌, ◌-◌, replicate, ap, ◌∙◌, arith, rules}
+use Rattle.refusal.specs.Questions.{turns}
+use Rattle.words.proofs.Folding.{told_turns}
+use Rattle.plan_sheet.specs.Plans.{mode_at}
 use Rattle.plan_sheet.proofs.read.read_modes.Goals as goal
 
-pub returns-in_err-row : goal.returns-in_err-row
-returns-in_err-row g c =
-    let p = err_from_is_err_and c.from_residual.result c.from_residual.ensures.1 in
-    rw (p.1, p.2) (sym (turns_stop _ _ _ _ _ c.loop-k-test.true (sym c.in_err-row.ensures)) ∙ c.loop-k.invariant)
-
-pub loop-k-preserved : goal.loop-k-preserved
-loop-k-preserved g c = sym (turns_more _ _ _ _ _ c.loop-k-test.true (sym c.in_ok-row.ensures)) ∙ c.loop-k.invariant
+pub returns : goal.returns
+returns g c =
+    let bs = c.args.bytes.now in
+    let count : c.signals.result - 0 ≡ (g.M.Model.meaning c.args.model.now).signals = omega (arith, c.signals.ensures) in
+    told_turns _ _ _ _ _ c.try_fold.result c.try_fold.ensures.ran (mode_at bs) (λ s k r q call. search rules)
+    ∙ ap (λ n. turns (mode_at bs) n 0 (record { value = replicate 32 0; place = c.args.at; end = c.args.at })) count
