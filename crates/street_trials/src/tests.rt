@@ -12,7 +12,7 @@ use std::process::Abort;
 use street::{Showing, Street};
 
 // One step: the modes that are given, what is answered, and then the queues, the lamps and the arrivals.
-// All numbers beyond those are 0.
+// All numbers beyond those are 0. A tuple, so that a step is one line of a table.
 pub type Step = (
     &'static [u8],
     Showing,
