@@ -1,4 +1,6 @@
 // Links of road, and the turns between them.
+ghost use Rattle.std.specs.Prelude.{◌≡◌};
+ghost use Rattle.network.specs.Network.{joins};
 
 // At the head of a link a junction shows it green in the phases of its mask: bit p - 1 for phase p.
 // The top is the link's storage, the flow the most that it lets out in a step, the load the most that arrives in one.
@@ -22,4 +24,13 @@ pub struct Turn {
     pub to: usize,
     pub share: u32,
     pub supply: u32,
+}
+
+impl Turn {
+    // Whether the turn goes from one link to another.
+    pub fn joins(&self, from: usize, to: usize) -> bool
+        ensures { result ≡ joins self.now from to }
+    {
+        self.from == from && self.to == to
+    }
 }

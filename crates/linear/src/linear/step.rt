@@ -76,7 +76,7 @@ impl Linear {
         carried + arrivals[k]
     }
 
-    // The amount of each place.
+    // The amount of each place. The mode and the values come as they stand: a struct of both would be opened again at each line.
     pub(super) fn amounts(&self, mode: u8, values: &[u32; 64], arrivals: &[u32; 64]) -> [u32; 64]
         requires { Ready (lines self.now) mode values.now arrivals.now }
         ensures { result ≡ amounts (lines self.now) mode values.now arrivals.now }

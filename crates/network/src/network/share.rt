@@ -1,17 +1,8 @@
 // The share of a pair of links.
 ghost use Rattle.std.specs.Prelude.{◌≡◌};
-ghost use Rattle.network.specs.Network.{joins, share_of, ShareTold};
+ghost use Rattle.network.specs.Network.{share_of, ShareTold};
 
 use super::Network;
-use crate::links::Turn;
-
-impl Turn {
-    fn joins(&self, from: usize, to: usize) -> bool
-        ensures { result ≡ joins self.now from to }
-    {
-        self.from == from && self.to == to
-    }
-}
 
 impl Network {
     // What part of one link's release goes into another, in thousandths; links are counted from 1.
