@@ -1,5 +1,5 @@
 -- Shelving on a fresh area asks what the check of a sheet asks.
-use Rattle.std.proofs.Common.{◌≡◌, ℕ, List, Ok, Err, Result, refl, ap, ◌∙◌, subst, arith}
+use Rattle.std.proofs.Common.{◌≡◌, ℕ, List, Ok, Err, Result, refl, ap, ◌∙◌, subst}
 use Rattle.refusal.specs.Questions.{Told, then, told_by}
 use Rattle.model.specs.Model.{Meaning}
 use Rattle.street.specs.Street.{Seen}
@@ -30,10 +30,10 @@ module _ (m : Meaning) (ls : List Limit) (sheet : List ℕ) where
   -- the count of rows that the check tells is that of the plan that was read
   counted : (said : Told Timing) (k : ℕ) → check_of said ≡ Ok k → count_in said ≡ k
   counted (Ok p) k e = checked_count m ls p.start p.rows k e
-  counted (Err r) k e = absurd (let z : ◌≡◌ {A = ℕ} 0 1 = cc in omega arith)
+  counted (Err r) k e = cc
 
   by_check : (a : Area) (t : Told ℕ) (r : Result ℕ AreaFault) → check_of (reads m sheet) ≡ t → Answers m a (shelve 1 sheet) (no_in t) (outcome rows r) → told_by area_refusal r ≡ t
-  by_check a (Err e) (Ok k) x y = absurd (let z : ◌≡◌ {A = ℕ} 0 1 = cc in omega arith)
+  by_check a (Err e) (Ok k) x y = cc
   by_check a (Err e) (Err f) x y = let z : area_refusal f ≡ e = cc in ap Err z
   by_check a (Ok k) (Ok j) x y = let z : j ≡ count_in (reads m sheet) = cc in ap Ok (z ∙ counted (reads m sheet) k x)
   by_check a (Ok k) (Err f) x y = absurd y

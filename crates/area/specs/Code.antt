@@ -25,8 +25,15 @@ timing_in None = None
 abbrev pub shelf_of : List (Option Plan) → List (Option Timing)
 shelf_of plans = map timing_in plans
 
+-- the shelf number of the plan on line; 0 where none is
+abbrev pub number_on : Option ℕ → ℕ
+number_on None = 0
+number_on (Some number) = number
+
 abbrev pub book_of : Book → Area.Book
-book_of b = record { shelf = shelf_of b.shelf; state = b.state; on = b.on; row = b.row; envelope = b.envelope }
+book_of b =
+    let p = b.position in
+    record { shelf = shelf_of b.shelf; state = p.state; on = number_on b.on; row = p.row; envelope = p.envelope }
 
 -- the area, by what its street shows of itself
 abbrev pub area_of : {S : Type 0} → (S → Seen) → AreaCode S → Area.Area

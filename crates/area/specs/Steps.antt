@@ -6,8 +6,13 @@ use Rattle.street.specs.Street.{lamps_after}
 use Rattle.plan.specs.declared.limits.Limit.{Limit}
 use Rattle.plan.specs.Limits.{first_broken}
 use Rattle.lives.specs.declared.state.State.{State}
+use Rattle.lives.specs.declared.state.State.TheVariants.{OffLine}
 use Rattle.lives.specs.Area.{row_after, cover_after, state_after, envelope_in}
-use Rattle.area.specs.declared.area.advancing.Position.{Position}
+use Rattle.area.specs.declared.area.Position.{Position}
+
+-- off line an area is at row 0, and the envelope is the tops
+abbrev pub off_line : Meaning → Position
+off_line m = record { state = OffLine; row = 0; envelope = m.tops }
 
 -- at this row, with the envelope that the state allows
 abbrev pub standing : Meaning → State → ℕ → List ℕ → Position

@@ -4,16 +4,22 @@ use lives::state::State;
 use plan::limits::Limit;
 use plan::plan::Plan;
 
-// What an area knows without looking at its street: the plans under the shelf numbers 1 to 8, the limits, the state, the shelf
-// number of the plan on line (0 where none is), the current row and the envelope.
+// Where an area stands: its state, the current row of the plan on line, counted from 0, and the envelope.
+#[derive(Clone, Copy)]
+struct Position {
+    state: State,
+    row: usize,
+    envelope: [u32; 64],
+}
+
+// What an area knows without looking at its street: the plans under the shelf numbers 1 to 8, the limits, the shelf number of the
+// plan on line, and where it stands. The shelf is an array, since an area allocates nothing.
 #[derive(Drop)]
 struct Book {
     shelf: [Option<Plan>; 8],
     limits: Vec<Limit>,
-    state: State,
-    on: usize,
-    row: usize,
-    envelope: [u32; 64],
+    on: Option<usize>,
+    position: Position,
 }
 
 #[derive(Drop)]

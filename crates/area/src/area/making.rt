@@ -1,27 +1,26 @@
 // The making of an area.
 ghost use Rattle.std.specs.Prelude.{◌≡◌};
-ghost use Rattle.lives.specs.Area.{fresh_book};
-ghost use Rattle.area.specs.Code.{Made, book_of};
+ghost use Rattle.area.specs.Code.{Made};
+ghost use Rattle.area.specs.Steps.{off_line};
 
-use crate::area::{Area, Book};
+use crate::area::{Area, Book, Position};
 use lives::state::State;
+use model::Model;
 use model::states::tops_of;
 use plan::limits::Limit;
 use street::Street;
 
-// A book with nothing in it but the limits.
-fn fresh_book<S: Street>(street: &S, limits: Vec<Limit>) -> Book
-    ensures book { book_of result ≡ fresh_book (S.Model.meaning street.now) }
-    ensures limits { result.limits.items ≡ limits.items }
-{
-    let envelope = tops_of(street);
-    Book {
-        shelf: [None; 8],
-        limits,
-        state: State::OffLine,
-        on: 0,
-        row: 0,
-        envelope,
+impl Position {
+    // Off line an area is at row 0, and the envelope is the tops.
+    pub(crate) fn off_line<M: Model>(model: &M) -> Position
+        ensures { result ≡ off_line (M.Model.meaning model.now) }
+    {
+        let envelope = tops_of(model);
+        Position {
+            state: State::OffLine,
+            row: 0,
+            envelope,
+        }
     }
 }
 
@@ -32,7 +31,13 @@ impl<S: Street> Area<S> {
     {
         // whatever a street is asked, its answer promises that it keeps the bounds of its model
         let _ = street.queue(1);
-        let book = fresh_book(&street, limits);
+        let position = Position::off_line(&street);
+        let book = Book {
+            shelf: [None; 8],
+            limits,
+            on: None,
+            position,
+        };
         Area {
             street,
             number,

@@ -12,21 +12,21 @@ impl<S: Street> Area<S> {
     pub fn state(&self) -> State
         ensures { result ≡ (area_of S.Street.seen self.now).book.state }
     {
-        self.book.state
+        self.book.position.state
     }
 
     // The current row, counted from 0.
     pub fn row(&self) -> usize
         ensures { result ≡ (area_of S.Street.seen self.now).book.row }
     {
-        self.book.row
+        self.book.position.row
     }
 
     // The envelope at a place.
     pub fn envelope(&self, place: usize) -> u32
         ensures { result ≡ told (area_of S.Street.seen self.now).book.envelope place }
     {
-        number_at(&self.book.envelope, place)
+        number_at(&self.book.position.envelope, place)
     }
 
     // The street's queue at a place.
