@@ -3,12 +3,13 @@ ghost use Rattle.std.specs.Prelude.{◌≡◌, ◌≢◌};
 ghost use Rattle.area_trials.specs.Duty.{OnDuty};
 
 use crate::tests::making::counted_area;
-use crate::tests::spell::close;
+use crate::tests::spell::{close, taken};
 use crate::tests::tables::PLAN;
-use crate::tests::{Stands, Told, check_stands, told_done, told_of, told_rows, told_step};
+use crate::tests::{Stands, check_stands, told};
 use area::area::{Area, Duty, Unspent};
 use lives::state::State;
 use network::network::Network;
+use refusal::Refusal;
 use std::alloc::Global;
 use std::process::Abort;
 use std::test::Fail;
@@ -16,6 +17,13 @@ use street::Street;
 use street::counted::CountedStreet;
 
 const OFF_LINE: Stands = (State::OffLine, 0, &[200, 100, 200], &[4, 2, 1]);
+
+// the area is off line, or the duty is another area's
+const NO_DUTY: Refusal = Refusal {
+    number: 20,
+    a: 0,
+    b: 0,
+};
 
 const COVERED: Stands = (State::Covered, 0, &[40, 25, 10], &[4, 2, 1]);
 
@@ -26,7 +34,7 @@ fn numbered(
     number: u32,
 ) -> Result<Area<CountedStreet<Network>>, Fail> {
     let mut area = counted_area(heap, 80, &[4, 2, 1], &[], number)?;
-    assert_eq!(rt; told_rows(area.shelve(1, PLAN.as_bytes())), (0, 2, 0));
+    assert_eq!(rt; told(area.shelve(1, PLAN.as_bytes())), Ok(2));
     Ok(area)
 }
 
@@ -37,21 +45,21 @@ fn try_refused<S: Street>(
     held: &Duty,
     stands: &Stands,
 ) -> Result<(), Fail> {
-    assert_eq!(rt; told_step(area.advance(held)), (20, 0, 0));
-    assert_eq!(rt; told_done(area.change(held, 1)), (20, 0, 0));
-    assert_eq!(rt; told_done(area.change(held, 9)), (20, 0, 0));
+    assert_eq!(rt; told(area.advance(held)), Err(NO_DUTY));
+    assert_eq!(rt; told(area.change(held, 1)), Err(NO_DUTY));
+    assert_eq!(rt; told(area.change(held, 9)), Err(NO_DUTY));
     check_stands(rt, area, stands)
 }
 
 // Gives a duty to an area that is off line, and then to its own.
-fn hand_round<S: Street>(off: &mut Area<S>, own: &mut Area<S>, duty: Duty) -> Told
+fn hand_round<S: Street>(off: &mut Area<S>, own: &mut Area<S>, duty: Duty) -> Result<(), Refusal>
     requires { OnDuty S.Street.seen own.old duty }
 {
     match off.give_back(duty) {
-        Ok(()) => (0, 0, 0),
+        Ok(()) => Ok(()),
         Err(Unspent { duty, fault }) => {
             close(own, duty);
-            told_of(fault)
+            Err(fault.into())
         }
     }
 }
@@ -67,7 +75,7 @@ fn try_round<S: Street>(
     let done = try_refused(rt, off, &duty, &OFF_LINE);
     let told = hand_round(off, own, duty);
     done?;
-    assert_eq!(rt; told, (20, 0, 0));
+    assert_eq!(rt; told, Err(NO_DUTY));
     check_stands(rt, off, &OFF_LINE)?;
     check_stands(rt, own, &OFF_LINE)
 }
@@ -77,10 +85,8 @@ fn try_off_line<S: Street + Drop>(
     mut off: Area<S>,
     mut own: Area<S>,
 ) -> Result<(), Fail> {
-    match own.take(1) {
-        Err(_) => Err(Fail::new("the plan is not taken")),
-        Ok(duty) => try_round(rt, &mut off, &mut own, duty),
-    }
+    let duty = taken(&mut own, 1)?;
+    try_round(rt, &mut off, &mut own, duty)
 }
 
 // The two areas have one number, but only one of them is on line.
@@ -106,13 +112,13 @@ fn try_other<S: Street>(
     check_stands(rt, area, &COVERED)?;
     let step = area.advance(yours);
     let change = area.change(yours, 1);
-    assert_eq!(rt; told_step(step), (20, 0, 0));
-    assert_eq!(rt; told_done(change), (20, 0, 0));
+    assert_eq!(rt; told(step), Err(NO_DUTY));
+    assert_eq!(rt; told(change), Err(NO_DUTY));
     check_stands(rt, area, &COVERED)
 }
 
 // Gives a duty to another area, which never takes it, and then to its own.
-fn exchange<S: Street>(area: &mut Area<S>, mine: &Duty, other: &mut Area<S>, yours: Duty) -> Told
+fn exchange<S: Street>(area: &mut Area<S>, mine: &Duty, other: &mut Area<S>, yours: Duty) -> Refusal
     requires mine { OnDuty S.Street.seen area.old mine.now }
     requires yours { OnDuty S.Street.seen other.old yours }
     requires differ { yours.area ≢ mine.now.area }
@@ -122,7 +128,7 @@ fn exchange<S: Street>(area: &mut Area<S>, mine: &Duty, other: &mut Area<S>, you
         Ok(()) => unreachable(),
         Err(Unspent { duty, fault }) => {
             close(other, duty);
-            told_of(fault)
+            fault.into()
         }
     }
 }
@@ -145,7 +151,7 @@ fn try_two<S: Street>(
     let done = try_other(rt, area, mine, &yours);
     let told = exchange(area, mine, other, yours);
     done?;
-    assert_eq!(rt; told, (20, 0, 0));
+    assert_eq!(rt; told, NO_DUTY);
     check_stands(rt, area, &COVERED)
 }
 
@@ -158,10 +164,8 @@ fn take_other<S: Street>(
     requires { OnDuty S.Street.seen area.old mine.now }
     ensures { OnDuty S.Street.seen area.new mine.now }
 {
-    match other.take(1) {
-        Err(_) => Err(Fail::new("the plan is not taken")),
-        Ok(yours) => try_two(rt, area, mine, other, yours),
-    }
+    let yours = taken(other, 1)?;
+    try_two(rt, area, mine, other, yours)
 }
 
 fn try_another<S: Street + Drop>(
@@ -169,16 +173,12 @@ fn try_another<S: Street + Drop>(
     mut area: Area<S>,
     mut other: Area<S>,
 ) -> Result<(), Fail> {
-    match area.take(1) {
-        Err(_) => Err(Fail::new("the plan is not taken")),
-        Ok(mine) => {
-            let done = take_other(rt, &mut area, &mine, &mut other);
-            close(&mut area, mine);
-            done?;
-            check_stands(rt, &area, &OFF_LINE)?;
-            check_stands(rt, &other, &OFF_LINE)
-        }
-    }
+    let mine = taken(&mut area, 1)?;
+    let done = take_other(rt, &mut area, &mine, &mut other);
+    close(&mut area, mine);
+    done?;
+    check_stands(rt, &area, &OFF_LINE)?;
+    check_stands(rt, &other, &OFF_LINE)
 }
 
 // Both areas are on line, and each takes back its own duty only.
@@ -196,15 +196,11 @@ fn try_number<S: Street + Drop>(
     mut area: Area<S>,
     number: u32,
 ) -> Result<(), Fail> {
-    match area.take(1) {
-        Err(_) => Err(Fail::new("the plan is not taken")),
-        Ok(duty) => {
-            let told = duty.area();
-            close(&mut area, duty);
-            assert_eq!(rt; told, number);
-            Ok(())
-        }
-    }
+    let duty = taken(&mut area, 1)?;
+    let told = duty.area();
+    close(&mut area, duty);
+    assert_eq!(rt; told, number);
+    Ok(())
 }
 
 // A duty has the number of its area.

@@ -6,6 +6,7 @@ use model_sheet::ModelRead;
 use network::network::Network;
 use network_sheet::read::read_network;
 use std::alloc::{AllocError, Global};
+use std::array;
 use std::test::Fail;
 use street::counted::CountedStreet;
 use street::groups::Group;
@@ -20,13 +21,7 @@ const TWO_MODES: &str =
 
 // A state that begins with these numbers.
 fn state_of(numbers: &[u32]) -> [u32; 64] {
-    let mut state = [0; 64];
-    for k in 0..64 {
-        if k < numbers.len() {
-            state[k] = numbers[k];
-        }
-    }
-    state
+    array::from_fn(|k| numbers.get(k).copied().unwrap_or(0))
 }
 
 fn groups_of(heap: Global, given: &[Given]) -> Result<Vec<Group>, AllocError> {
@@ -46,10 +41,7 @@ pub(crate) fn corridor(heap: Global, bound: u32) -> Result<ModelRead<Network>, F
     let sheet = format!(in heap;
         "signals 2 2 2 links 3 a 0 1 200 60 20 1 b 1 2 100 50 0 1 c 0 1 200 40 10 2 turns 2 1 2 500 1000 3 2 250 1000 limits 1 {bound} 2 1 1 3 1"
     )?;
-    match read_network(heap, sheet.as_bytes()) {
-        Ok(read) => Ok(read),
-        Err(_) => Err(Fail::new("the network sheet is not read")),
-    }
+    read_network(heap, sheet.as_bytes()).map_err(|_| Fail::new("the network sheet is not read"))
 }
 
 pub(crate) fn heavy_area(
@@ -84,17 +76,13 @@ pub(crate) fn counted_area(
 }
 
 pub(crate) fn linear_area(heap: Global, queues: &[u32]) -> Result<Area<HeavyStreet<Linear>>, Fail> {
-    match read_linear(heap, TWO_MODES.as_bytes()) {
-        Ok(
-            ModelRead {
-                model,
-                limits,
-                end: _,
-            },
-        ) => {
-            let street = HeavyStreet::new(model, state_of(queues));
-            Ok(Area::new(street, limits, 7))
-        }
-        Err(_) => Err(Fail::new("the linear sheet is not read")),
-    }
+    let ModelRead {
+        model,
+        limits,
+        end: _,
+    } = read_linear(heap, TWO_MODES.as_bytes()).map_err(|_| Fail::new(
+        "the linear sheet is not read",
+    ))?;
+    let street = HeavyStreet::new(model, state_of(queues));
+    Ok(Area::new(street, limits, 7))
 }

@@ -2,65 +2,253 @@
 use crate::tests::making::{corridor, counted_area, heavy_area};
 use crate::tests::spell::told_take;
 use crate::tests::tables::{PLAN, WIDE};
-use crate::tests::{Stands, Told, check_stands, told_rows};
+use crate::tests::{Stands, check_stands, told};
 use area::area::Area;
 use area::area::first::shelve_first;
 use lives::state::State;
 use model_sheet::ModelRead;
+use refusal::Refusal;
 use std::process::Abort;
 use std::test::Fail;
 use street::Street;
 
 // A shelf number, a sheet, and what is told; the bound is 399.
-const SHELVED: [(usize, &str, Told); 22] = [
-    (0, PLAN, (11, 0, 0)),
-    (9, PLAN, (11, 0, 0)),
-    (1, "start 3 40 2\x075 10 rows 2 1 1 2 2", (2, 12, 0)),
-    (1, "", (3, 0, 0)),
-    (1, "start 3 40 25 10 rows 2 1 1 2", (3, 29, 0)),
-    (1, "start 3 40 25 10 row 2 1 1 2 2", (4, 17, 0)),
-    (1, "start 3 40 x 10 rows 2 1 1 2 2", (5, 11, 0)),
-    (1, "start 2 40 25 rows 2 1 1 2 2", (6, 6, 0)),
-    (1, "start 3 40 25 10 rows 2 1 1 2 3", (6, 30, 0)),
-    (1, "start 3 200 0 200 rows 2 1 1 2 2", (13, 0, 1)),
-    (1, "start 3 50 90 0 rows 1 1 2", (14, 0, 1)),
-    (1, "start 3 190 0 0 rows 1 0 0", (15, 0, 1)),
-    (1, "start 3 0 0 185 rows 2 0 0 0 0", (15, 1, 3)),
-    (1, "start 3 39 25 10 rows 2 1 1 2 2", (16, 2, 1)),
-    (1, "start 3 40 24 10 rows 2 1 1 2 2", (16, 2, 2)),
-    (8, PLAN, (0, 2, 0)),
-    (8, PLAN, (12, 8, 0)),
-    (8, "", (12, 8, 0)),
-    (1, WIDE, (0, 2, 0)),
-    (1, PLAN, (12, 1, 0)),
-    (0, "", (11, 0, 0)),
-    (2, PLAN, (0, 2, 0)),
+const SHELVED: [(usize, &str, Result<usize, Refusal>); 22] = [
+    (
+        0,
+        PLAN,
+        Err(Refusal {
+            number: 11,
+            a: 0,
+            b: 0,
+        }),
+    ),
+    (
+        9,
+        PLAN,
+        Err(Refusal {
+            number: 11,
+            a: 0,
+            b: 0,
+        }),
+    ),
+    (
+        1,
+        "start 3 40 2\x075 10 rows 2 1 1 2 2",
+        Err(Refusal {
+            number: 2,
+            a: 12,
+            b: 0,
+        }),
+    ),
+    (
+        1,
+        "",
+        Err(Refusal {
+            number: 3,
+            a: 0,
+            b: 0,
+        }),
+    ),
+    (
+        1,
+        "start 3 40 25 10 rows 2 1 1 2",
+        Err(Refusal {
+            number: 3,
+            a: 29,
+            b: 0,
+        }),
+    ),
+    (
+        1,
+        "start 3 40 25 10 row 2 1 1 2 2",
+        Err(Refusal {
+            number: 4,
+            a: 17,
+            b: 0,
+        }),
+    ),
+    (
+        1,
+        "start 3 40 x 10 rows 2 1 1 2 2",
+        Err(Refusal {
+            number: 5,
+            a: 11,
+            b: 0,
+        }),
+    ),
+    (
+        1,
+        "start 2 40 25 rows 2 1 1 2 2",
+        Err(Refusal {
+            number: 6,
+            a: 6,
+            b: 0,
+        }),
+    ),
+    (
+        1,
+        "start 3 40 25 10 rows 2 1 1 2 3",
+        Err(Refusal {
+            number: 6,
+            a: 30,
+            b: 0,
+        }),
+    ),
+    (
+        1,
+        "start 3 200 0 200 rows 2 1 1 2 2",
+        Err(Refusal {
+            number: 13,
+            a: 0,
+            b: 1,
+        }),
+    ),
+    (
+        1,
+        "start 3 50 90 0 rows 1 1 2",
+        Err(Refusal {
+            number: 14,
+            a: 0,
+            b: 1,
+        }),
+    ),
+    (
+        1,
+        "start 3 190 0 0 rows 1 0 0",
+        Err(Refusal {
+            number: 15,
+            a: 0,
+            b: 1,
+        }),
+    ),
+    (
+        1,
+        "start 3 0 0 185 rows 2 0 0 0 0",
+        Err(Refusal {
+            number: 15,
+            a: 1,
+            b: 3,
+        }),
+    ),
+    (
+        1,
+        "start 3 39 25 10 rows 2 1 1 2 2",
+        Err(Refusal {
+            number: 16,
+            a: 2,
+            b: 1,
+        }),
+    ),
+    (
+        1,
+        "start 3 40 24 10 rows 2 1 1 2 2",
+        Err(Refusal {
+            number: 16,
+            a: 2,
+            b: 2,
+        }),
+    ),
+    (8, PLAN, Ok(2)),
+    (
+        8,
+        PLAN,
+        Err(Refusal {
+            number: 12,
+            a: 8,
+            b: 0,
+        }),
+    ),
+    (
+        8,
+        "",
+        Err(Refusal {
+            number: 12,
+            a: 8,
+            b: 0,
+        }),
+    ),
+    (1, WIDE, Ok(2)),
+    (
+        1,
+        PLAN,
+        Err(Refusal {
+            number: 12,
+            a: 1,
+            b: 0,
+        }),
+    ),
+    (
+        0,
+        "",
+        Err(Refusal {
+            number: 11,
+            a: 0,
+            b: 0,
+        }),
+    ),
+    (2, PLAN, Ok(2)),
 ];
 
 // A shelf number, and what a take tells; link 1 has 41, and the starts 60, 40 and 40.
-const TAKEN: [(usize, Told); 6] = [
-    (0, (18, 0, 0)),
-    (9, (18, 0, 0)),
-    (3, (18, 0, 0)),
-    (8, (19, 1, 0)),
-    (2, (19, 1, 0)),
-    (1, (0, 0, 0)),
+const TAKEN: [(usize, Result<(), Refusal>); 6] = [
+    (
+        0,
+        Err(Refusal {
+            number: 18,
+            a: 0,
+            b: 0,
+        }),
+    ),
+    (
+        9,
+        Err(Refusal {
+            number: 18,
+            a: 0,
+            b: 0,
+        }),
+    ),
+    (
+        3,
+        Err(Refusal {
+            number: 18,
+            a: 0,
+            b: 0,
+        }),
+    ),
+    (
+        8,
+        Err(Refusal {
+            number: 19,
+            a: 1,
+            b: 0,
+        }),
+    ),
+    (
+        2,
+        Err(Refusal {
+            number: 19,
+            a: 1,
+            b: 0,
+        }),
+    ),
+    (1, Ok(())),
 ];
 
 const OFF_LINE: Stands = (State::OffLine, 0, &[200, 100, 200], &[41, 25, 10]);
 
 fn try_shelf<S: Street>(rt: &impl Abort, area: &mut Area<S>) -> Result<(), Fail> {
-    for (number, sheet, told) in &SHELVED {
+    for (number, sheet, due) in &SHELVED {
         let answer = area.shelve(*number, sheet.as_bytes());
-        assert_eq!(rt; told_rows(answer), *told, "{}", sheet);
+        assert_eq!(rt; told(answer), *due, "{}", sheet);
         check_stands(rt, area, &OFF_LINE)?;
     }
     Ok(())
 }
 
 fn try_takes<S: Street>(rt: &impl Abort, area: &mut Area<S>) -> Result<(), Fail> {
-    for (number, told) in &TAKEN {
-        assert_eq!(rt; told_take(area, *number), *told, "{}", number);
+    for (number, due) in &TAKEN {
+        assert_eq!(rt; told_take(area, *number), *due, "{}", number);
         check_stands(rt, area, &OFF_LINE)?;
     }
     Ok(())
@@ -84,8 +272,15 @@ fn counted_shelf(rt: HostRuntime) -> Result<(), Fail> {
 
 // The lowest place whose queue is above the start is told.
 fn try_above<S: Street + Drop>(rt: &impl Abort, mut area: Area<S>, place: usize) {
-    assert_eq!(rt; told_rows(area.shelve(1, PLAN.as_bytes())), (0, 2, 0));
-    assert_eq!(rt; told_take(&mut area, 1), (19, place, 0));
+    assert_eq!(rt; told(area.shelve(1, PLAN.as_bytes())), Ok(2));
+    assert_eq!(rt;
+        told_take(&mut area, 1),
+        Err(Refusal {
+            number: 19,
+            a: place,
+            b: 0
+        })
+    );
 }
 
 #[test]
@@ -96,20 +291,27 @@ fn queue_above(rt: HostRuntime) -> Result<(), Fail> {
 }
 
 // The bound of the corridor, and what its first shelf number tells: with 49 the start breaks the limit.
-const FIRST: [(u32, Told); 2] = [(50, (0, 2, 0)), (49, (13, 0, 1))];
+const FIRST: [(u32, Result<usize, Refusal>); 2] = [
+    (50, Ok(2)),
+    (
+        49,
+        Err(Refusal {
+            number: 13,
+            a: 0,
+            b: 1,
+        }),
+    ),
+];
 
 #[test]
 fn first_shelf(rt: HostRuntime) -> Result<(), Fail> {
-    for (bound, told) in &FIRST {
+    for (bound, due) in &FIRST {
         let ModelRead {
             model,
             limits,
             end: _,
         } = corridor(rt.alloc(), *bound)?;
-        assert_eq!(rt;
-            told_rows(shelve_first(model, limits, PLAN.as_bytes())),
-            *told
-        );
+        assert_eq!(rt; told(shelve_first(model, limits, PLAN.as_bytes())), *due);
     }
     Ok(())
 }

@@ -1,68 +1,74 @@
 // A spell from a take to its give back. A duty cannot be let go, so each function here keeps it good, and the last one spends it.
+ghost use Rattle.std.specs.Prelude.{IfOk};
 ghost use Rattle.area_trials.specs.Duty.{OnDuty};
 
-use crate::tests::{Stands, Told, check_stands, told_done, told_of, told_rows, told_step};
+use crate::tests::{Stands, check_stands, told};
 use area::area::{Area, Duty};
+use refusal::Refusal;
 use std::process::Abort;
 use std::test::Fail;
-use street::Street;
+use street::{Showing, Street};
 
-// A call in a spell: one step, a plan to change to, a plan to shelve, or a plan to take.
+// A call in a spell, and what it tells: one step, a plan to change to, a plan to shelve, or a plan to take.
 #[derive(Clone, Copy)]
 pub enum Call {
-    Step,
-    Change(usize),
-    Shelve(usize, &'static str),
-    Take(usize),
+    Step(Result<Showing, Refusal>),
+    Change(usize, Result<(), Refusal>),
+    Shelve(usize, &'static str, Result<usize, Refusal>),
+    // a second take is never accepted
+    Take(usize, Refusal),
 }
 
-// A call, what it tells, and how the area stands after it.
-pub type Called = (Call, Told, Stands);
+// A call, and how the area stands after it.
+pub type Called = (Call, Stands);
 
-fn step<S: Street>(area: &mut Area<S>, duty: &Duty) -> Told
+fn step<S: Street>(rt: &impl Abort, area: &mut Area<S>, duty: &Duty, due: Result<Showing, Refusal>)
     requires { OnDuty S.Street.seen area.old duty.now }
     ensures { OnDuty S.Street.seen area.new duty.now }
 {
-    let answer = area.advance(duty);
-    told_step(answer)
+    assert_eq!(rt; told(area.advance(duty)), due);
 }
 
-fn change_to<S: Street>(area: &mut Area<S>, duty: &Duty, number: usize) -> Told
+fn change_to<S: Street>(
+    rt: &impl Abort,
+    area: &mut Area<S>,
+    duty: &Duty,
+    number: usize,
+    due: Result<(), Refusal>,
+)
     requires { OnDuty S.Street.seen area.old duty.now }
     ensures { OnDuty S.Street.seen area.new duty.now }
 {
-    let answer = area.change(duty, number);
-    told_done(answer)
+    assert_eq!(rt; told(area.change(duty, number)), due);
 }
 
-fn shelve_too<S: Street>(area: &mut Area<S>, duty: &Duty, number: usize, sheet: &str) -> Told
+fn shelve_too<S: Street>(
+    rt: &impl Abort,
+    area: &mut Area<S>,
+    duty: &Duty,
+    number: usize,
+    sheet: &str,
+    due: Result<usize, Refusal>,
+)
     requires { OnDuty S.Street.seen area.old duty.now }
     ensures { OnDuty S.Street.seen area.new duty.now }
 {
-    let answer = area.shelve(number, sheet.as_bytes());
-    told_rows(answer)
+    assert_eq!(rt; told(area.shelve(number, sheet.as_bytes())), due);
 }
 
-// A second take is never accepted.
-fn take_again<S: Street>(area: &mut Area<S>, duty: &Duty, number: usize) -> Told
+fn take_again<S: Street>(
+    rt: &impl Abort,
+    area: &mut Area<S>,
+    duty: &Duty,
+    number: usize,
+    due: Refusal,
+)
     requires { OnDuty S.Street.seen area.old duty.now }
     ensures { OnDuty S.Street.seen area.new duty.now }
 {
     match area.take(number) {
         Ok(_second) => unreachable(),
-        Err(fault) => told_of(fault),
-    }
-}
-
-fn make<S: Street>(area: &mut Area<S>, duty: &Duty, call: Call) -> Told
-    requires { OnDuty S.Street.seen area.old duty.now }
-    ensures { OnDuty S.Street.seen area.new duty.now }
-{
-    match call {
-        Call::Step => step(area, duty),
-        Call::Change(number) => change_to(area, duty, number),
-        Call::Shelve(number, sheet) => shelve_too(area, duty, number, sheet),
-        Call::Take(number) => take_again(area, duty, number),
+        Err(fault) => assert_eq!(rt; Refusal::from(fault), due),
     }
 }
 
@@ -75,8 +81,13 @@ fn try_call<S: Street>(
     requires { OnDuty S.Street.seen area.old duty.now }
     ensures { OnDuty S.Street.seen area.new duty.now }
 {
-    let (call, told, stands) = *called;
-    assert_eq!(rt; make(area, duty, call), told);
+    let (call, stands) = *called;
+    match call {
+        Call::Step(due) => step(rt, area, duty, due),
+        Call::Change(number, due) => change_to(rt, area, duty, number, due),
+        Call::Shelve(number, sheet, due) => shelve_too(rt, area, duty, number, sheet, due),
+        Call::Take(number, due) => take_again(rt, area, duty, number, due),
+    }
     check_stands(rt, area, &stands)
 }
 
@@ -122,6 +133,14 @@ pub(crate) fn close<S: Street>(area: &mut Area<S>, duty: Duty)
     }
 }
 
+// The duty of an area that takes the plan under a number.
+pub(crate) fn taken<S: Street>(area: &mut Area<S>, number: usize) -> Result<Duty, Fail>
+    ensures { IfOk result (OnDuty S.Street.seen area.new) }
+{
+    area.take(number)
+        .map_err(|_| Fail::new("the plan is not taken"))
+}
+
 // Takes the plan under a number, makes the calls so many times, and gives the area back.
 pub(crate) fn try_spell<S: Street>(
     rt: &impl Abort,
@@ -130,23 +149,15 @@ pub(crate) fn try_spell<S: Street>(
     times: usize,
     calls: &[Called],
 ) -> Result<(), Fail> {
-    match area.take(number) {
-        Err(_) => Err(Fail::new("the plan is not taken")),
-        Ok(duty) => {
-            let done = try_rounds(rt, area, &duty, times, calls);
-            close(area, duty);
-            done
-        }
-    }
+    let duty = taken(area, number)?;
+    let done = try_rounds(rt, area, &duty, times, calls);
+    close(area, duty);
+    done
 }
 
 // A take of an area that may be off line; if it is accepted, the area is given back at once.
-pub(crate) fn told_take<S: Street>(area: &mut Area<S>, number: usize) -> Told {
-    match area.take(number) {
-        Err(fault) => told_of(fault),
-        Ok(duty) => {
-            close(area, duty);
-            (0, 0, 0)
-        }
-    }
+pub(crate) fn told_take<S: Street>(area: &mut Area<S>, number: usize) -> Result<(), Refusal> {
+    let duty = area.take(number)?;
+    close(area, duty);
+    Ok(())
 }

@@ -4,7 +4,7 @@ use crate::tests::spell::{Called, try_spell};
 use crate::tests::tables::{
     COVERED_AGAIN, DARK_FIRST, LIGHTER, LIMIT_LOST, LINEAR_ROUND, MODES, PLACE_HELD, PLAN, ROUND,
 };
-use crate::tests::{check_stands, told_rows};
+use crate::tests::{check_stands, told};
 use area::area::Area;
 use lives::state::State;
 use std::process::Abort;
@@ -50,7 +50,7 @@ fn try_plan<S: Street>(
     calls: &[Called],
     queues: &'static [u32],
 ) -> Result<(), Fail> {
-    assert_eq!(rt; told_rows(area.shelve(1, PLAN.as_bytes())), (0, 2, 0));
+    assert_eq!(rt; told(area.shelve(1, PLAN.as_bytes())), Ok(2));
     try_spell(rt, area, 1, times, calls)?;
     check_stands(rt, area, &(State::OffLine, 0, &[200, 100, 200], queues))
 }
@@ -126,7 +126,7 @@ fn lighter_start(rt: HostRuntime) -> Result<(), Fail> {
 }
 
 fn try_linear<S: Street + Drop>(rt: &impl Abort, mut area: Area<S>) -> Result<(), Fail> {
-    assert_eq!(rt; told_rows(area.shelve(8, MODES.as_bytes())), (0, 7, 0));
+    assert_eq!(rt; told(area.shelve(8, MODES.as_bytes())), Ok(7));
     try_spell(rt, &mut area, 8, 1, &LINEAR_ROUND)?;
     check_stands(
         rt,
