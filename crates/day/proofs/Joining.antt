@@ -1,5 +1,5 @@
 -- Text that is written piece by piece.
-use Rattle.std.proofs.Common.{◌≡◌, ℕ, suc, ◌+◌, ◌-◌, ◌<◌, List, ◌++◌, IfOk, codes, decimal, Result, sym, ap, ◌∙◌, append_assoc, arith}
+use Rattle.std.proofs.Common.{◌≡◌, ℕ, suc, ◌+◌, ◌-◌, ◌<◌, ◌≤◌, List, ◌++◌, IfOk, codes, decimal, Result, sym, ap, ◌∙◌, append_assoc, append-nil, arith}
 use Rattle.std.proofs.lemmas.Result.{IfOk-weaker}
 use Rattle.model.specs.State.{told}
 use Rattle.day.specs.Text.{numbers_from}
@@ -13,6 +13,12 @@ numbers_step xs n k v out next all l is e inv =
     ∙ append_assoc out (codes " " ++ decimal (told xs (k + 1))) left
     ∙ sym (ap (λ j. out ++ numbers_from xs j k) more)
     ∙ inv
+
+-- after the last of them
+pub numbers_end : (xs : List ℕ) (n k : ℕ) (out all : List ℕ) → n ≤ k → out ++ numbers_from xs (n - k) k ≡ all → out ≡ all
+numbers_end xs n k out all l inv =
+    let none : n - k ≡ 0 = omega arith in
+    sym (append-nil out) ∙ sym (ap (λ j. out ++ numbers_from xs j k) none) ∙ inv
 
 -- three pieces, one after the other
 pub three_pieces : {X E : Type 0} (r : Result X E) (o h n t q s u : List ℕ) → q ≡ o ++ h → s ≡ q ++ n → IfOk r (λ _. u ≡ s ++ t) → IfOk r (λ _. u ≡ o ++ (h ++ (n ++ t)))

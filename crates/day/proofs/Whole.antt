@@ -1,5 +1,6 @@
 -- The lines of a day, one call after the other.
 use Rattle.std.proofs.Common.{◌≡◌, ℕ, ◌+◌, ◌<◌, ◌≤◌, Bool, true, List, [], ◌∷◌, ◌++◌, length, get_or, drop, is_ok, IfOk, Some, None, Ok, Err, Option, Result, sym, refl, ap, ◌∙◌, subst, append_assoc, append-nil, arith}
+use Rattle.std.specs.Result.{result_and}
 use Rattle.std.proofs.lemmas.List.{at_drop_more, drop_all}
 use Rattle.model.specs.Model.{Meaning}
 use Rattle.street.specs.Street.{Seen}
@@ -18,7 +19,12 @@ use Rattle.day.specs.Whole.{Runs, Lines, LineRun, SoFar, fresh_area}
 -- what is said of an answer that came out well
 pub where_ok : {X E : Type 0} (r : Result X E) (P : Type 0) → IfOk r (λ _. P) → is_ok r ≡ true → P
 where_ok (Ok x) P p e = p
-where_ok (Err y) P p e = absurd (let z : ◌≡◌ {A = ℕ} 0 1 = cc in omega arith)
+where_ok (Err y) P p e = cc
+
+-- two answers that both came out well
+pub both_ok : {X Y E : Type 0} (r : Result X E) (q : Result Y E) → is_ok (result_and r q) ≡ true → (is_ok r ≡ true) × (is_ok q ≡ true)
+both_ok (Ok x) q e = (refl, e)
+both_ok (Err y) q e = cc
 
 module _ {S : Type 0} (meaning : S → Meaning) (seen : S → Seen) where
   -- a call of the area as it is held, and as it is meant

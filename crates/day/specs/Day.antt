@@ -2,15 +2,15 @@
 use Rattle.std.specs.Prelude.{ℕ, List, Ok, vec_items, codes}
 use Rattle.refusal.specs.Questions.{Told, then}
 use Rattle.model.specs.Model.{Meaning}
+use Rattle.words.specs.declared.recorded.Recorded.{Recorded}
 use Rattle.words.specs.declared.reading.Reading.{Reading}
 use Rattle.words.specs.Words.{short_sheet}
 use Rattle.words.specs.Numbers.{number_at, section_at}
 use Rattle.records.specs.Sections.{Items, section_of}
 use Rattle.street.specs.declared.groups.Group.{Group}
-use Rattle.day.specs.declared.table.Table.{Table}
 use Rattle.day.specs.declared.call.DayCall.{DayCall}
 use Rattle.day.specs.declared.read.Day.{Day}
-use Rattle.day.specs.Tables.{table_at, group_at}
+use Rattle.day.specs.Tables.{numbers_at, group_at}
 use Rattle.day.specs.Calls.{call_at}
 
 -- the area's number, and no records
@@ -18,8 +18,8 @@ abbrev pub area_section : List ℕ → ℕ → Told (Reading ℕ)
 area_section bs at = then (section_at bs at (codes "area")) (λ a. number_at bs a 0 999999999)
 
 -- exactly the count of places, and a queue for each
-abbrev pub queues_section : Meaning → List ℕ → ℕ → Told Table
-queues_section m bs at = then (section_at bs at (codes "queues")) (λ a. then (number_at bs a m.places m.places) (λ n. table_at m bs n.end))
+abbrev pub queues_section : Meaning → List ℕ → ℕ → Told (Recorded (List ℕ))
+queues_section m bs at = then (section_at bs at (codes "queues")) (λ a. then (number_at bs a m.places m.places) (λ n. numbers_at m bs n.end))
 
 -- at most 64 groups
 abbrev pub groups_section : Meaning → List ℕ → ℕ → Told (Items Group)
@@ -42,7 +42,7 @@ sections m bs =
     then (queues_section m bs area.end) (λ queues.
     then (groups_section m bs queues.end) (λ groups.
     then (calls_section m bs groups.end) (λ calls.
-    Ok (record { number = area.value; queues = queues.numbers; groups = groups.items; calls = calls.items })))))
+    Ok (record { number = area.value; queues = queues.item; groups = groups.items; calls = calls.items })))))
 
 -- the length of the sheet first, then its words
 abbrev pub day_sheet : Meaning → List ℕ → Told DaySaid

@@ -1,10 +1,10 @@
 -- The line of a call.
 use Rattle.std.specs.Prelude.{ℕ, zero, suc, ◌+◌, List, [], ◌∷◌, ◌++◌, codes, decimal}
 use Rattle.refusal.specs.declared.Refusal.{Refusal}
+use Rattle.refusal.specs.Text.{refusal_text}
 use Rattle.model.specs.State.{told}
-use Rattle.lives.specs.declared.state.Loss.TheVariants.{PlaceHeld, LimitBroken}
 use Rattle.lives.specs.declared.state.State.{State}
-use Rattle.lives.specs.declared.state.State.TheVariants.{OffLine, Covered, Lost}
+use Rattle.lives.specs.Text.{state_text}
 use Rattle.lives.specs.Area.{Book}
 use Rattle.day.specs.declared.call.DayCall.{DayCall}
 use Rattle.day.specs.declared.call.DayCall.TheVariants.{Shelve, Take, Advance, Change, Give}
@@ -18,10 +18,6 @@ call_text Advance = codes "advance"
 call_text (Change n) = codes "change"
 call_text Give = codes "give"
 
--- the number of the question that was answered no, and its two places
-abbrev pub refused_text : Refusal → List ℕ
-refused_text r = codes "refused " ++ (decimal r.number ++ (codes " " ++ (decimal r.a ++ (codes " " ++ decimal r.b))))
-
 abbrev pub done_text : Done → List ℕ
 done_text (Shelved n) = codes "shelved " ++ decimal n
 done_text (Duty d) = codes "duty " ++ decimal d
@@ -29,15 +25,8 @@ done_text Shown = codes "shown"
 done_text Dark = codes "dark"
 done_text Changed = codes "changed"
 done_text Given = codes "given"
-done_text (Refused r) = refused_text r
+done_text (Refused r) = codes "refused " ++ refusal_text r
 done_text NoDuty = codes "no duty"
-
--- a lost cover is told by the row that was tried and the place or the limit
-abbrev pub state_text : State → List ℕ
-state_text OffLine = codes "off"
-state_text Covered = codes "covered"
-state_text (Lost (PlaceHeld row place)) = codes "lost held " ++ (decimal row ++ (codes " " ++ decimal place))
-state_text (Lost (LimitBroken row limit)) = codes "lost limit " ++ (decimal row ++ (codes " " ++ decimal limit))
 
 -- the line up to the numbers of the envelope
 abbrev pub head_text : DayCall → Done → State → ℕ → List ℕ
@@ -55,4 +44,4 @@ line_text call r b places = head_text call r b.state b.row ++ (numbers_from b.en
 
 -- the line of a refused sheet
 abbrev pub refused_line : Refusal → List ℕ
-refused_line r = refused_text r ++ (10 ∷ [])
+refused_line r = codes "refused " ++ (refusal_text r ++ (10 ∷ []))

@@ -15,6 +15,7 @@ use Rattle.lives.specs.Area.{Area, fresh_book}
 use Rattle.lives.specs.Calls.{Call, Outcome, Calls}
 use Rattle.area.specs.declared.area.Area.{Area as AreaCode}
 use Rattle.area.specs.Code.{area_of, limits_of}
+use Rattle.model_sheet.specs.Content.{Content, told_meant}
 use Rattle.network_sheet.specs.Network.{network_sheet}
 use Rattle.linear_sheet.specs.Linear.{linear_sheet}
 use Rattle.day.specs.declared.call.DayCall.{DayCall}
@@ -69,11 +70,15 @@ fresh_area m d = record { number = d.number; book = fresh_book m; street = fresh
 abbrev pub DayLines : Meaning → List Limit → List ℕ → List ℕ → Type 0
 DayLines m ls bs text = After (λ d. Lines m ls bs m.places d.calls (fresh_area m d) None) (day_sheet m bs) text
 
+-- what is printed of an input where its model sheet tells this, and a day sheet follows
+abbrev pub DayOn : Told (Content Meaning) → List ℕ → List ℕ → Type 0
+DayOn sheet bs text = After (λ c. DayLines c.model c.limits (drop c.end bs)) sheet text
+
 abbrev pub NetworkDay : List ℕ → List ℕ → Type 0
-NetworkDay bs text = After (λ c. DayLines (network c.model) c.limits (drop c.end bs)) (network_sheet bs) text
+NetworkDay bs text = DayOn (told_meant network (network_sheet bs)) bs text
 
 abbrev pub LinearDay : List ℕ → List ℕ → Type 0
-LinearDay bs text = After (λ c. DayLines (linear c.model) c.limits (drop c.end bs)) (linear_sheet bs) text
+LinearDay bs text = DayOn (told_meant linear (linear_sheet bs)) bs text
 
 -- the first word tells the model
 abbrev pub begins_linear : List ℕ → Bool

@@ -1,10 +1,8 @@
 // The calls of a day, as records of the section `calls`.
 ghost use Rattle.std.specs.Prelude.{◌≡◌};
-ghost use Rattle.std.specs.Str.{bytes_eq};
 ghost use Rattle.words.specs.Faults.{told};
 ghost use Rattle.day.specs.Calls.{word_of, call_word_at, shelf_at, shelve_at, call_at};
 
-use crate::rest::rest_of;
 use model::Model;
 use plan_sheet::read::read_plan;
 use records::Record;
@@ -12,7 +10,7 @@ use words::fault::SheetFault;
 use words::number::number;
 use words::reading::Reading;
 use words::recorded::Recorded;
-use words::word::{Word, next_word};
+use words::word::{Word, next_word, rest_of};
 
 // The words that begin a call.
 #[derive(Clone, Copy)]
@@ -37,28 +35,17 @@ pub enum DayCall {
     Give,
 }
 
-fn is_word(text: &[u8], word: &[u8]) -> bool
-    ensures { result ≡ bytes_eq text.now word.now }
-{
-    text == word
-}
-
 // The call that a word begins.
 fn word_of(text: &[u8]) -> Option<CallWord>
     ensures { result ≡ word_of text.now }
 {
-    if is_word(text, b"shelve") {
-        Some(CallWord::Shelve)
-    } else if is_word(text, b"take") {
-        Some(CallWord::Take)
-    } else if is_word(text, b"advance") {
-        Some(CallWord::Advance)
-    } else if is_word(text, b"change") {
-        Some(CallWord::Change)
-    } else if is_word(text, b"give") {
-        Some(CallWord::Give)
-    } else {
-        None
+    match text {
+        b"shelve" => Some(CallWord::Shelve),
+        b"take" => Some(CallWord::Take),
+        b"advance" => Some(CallWord::Advance),
+        b"change" => Some(CallWord::Change),
+        b"give" => Some(CallWord::Give),
+        _ => None,
     }
 }
 

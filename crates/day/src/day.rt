@@ -1,30 +1,31 @@
 // A whole day of an area: the lines of its calls, or the refusal of a sheet.
-ghost use Rattle.std.specs.Prelude.{◌≡◌, IfOk, None, string_bytes};
+ghost use Rattle.std.specs.Prelude.{◌≡◌, IfOk, None, is_ok, string_bytes};
 ghost use Rattle.area.specs.Code.{area_of, limits_of};
 ghost use Rattle.day.specs.Running.{held, InHand};
-ghost use Rattle.day.specs.Whole.{LineRun, Lines, Faulted, DayLines, begins_linear, LinearDay, NetworkDay, Printed};
+ghost use Rattle.day.specs.Whole.{LineRun, Lines, Faulted, DayLines, DayOn, Printed};
 
 use crate::call::DayCall;
 use crate::lines::write_line;
 use crate::read::read_day;
-use crate::rest::rest_of;
-use crate::run::{Done, Ran, close, run_call};
+use crate::run::{Ran, close, run_call};
 use area::area::{Area, Duty};
-use linear_sheet::read::read_linear;
+use linear_sheet::read::LinearSheet;
 use model::Model;
-use model_sheet::ModelRead;
-use network_sheet::read::read_network;
+use model_sheet::{ModelRead, ModelSheet};
+use network_sheet::read::NetworkSheet;
 use plan::limits::Limit;
 use records::fault::ModelFault;
+use refusal::Refusal;
 use std::alloc::{AllocError, Global};
 use street::Street;
 use street::counted::CountedStreet;
 use words::number::section;
+use words::word::rest_of;
 
-// The duty in hand, and whether there was memory for every line so far.
+// The duty in hand, and the error of the first line that there was no memory for.
 struct Shift {
     hand: Option<Duty>,
-    written: bool,
+    written: Result<(), AllocError>,
 }
 
 // One call more, and its line.
@@ -37,14 +38,14 @@ fn next_line<S: Street>(
     out: &mut String,
 ) -> Shift
     requires { InHand (area_of S.Street.seen area.old) (held shift.hand) }
-    ensures { LineRun S.Model.meaning S.Street.seen sheet.now places call area.old (held shift.hand) (string_bytes out.old) shift.written area.new (held result.hand) (string_bytes out.new) result.written }
+    ensures { LineRun S.Model.meaning S.Street.seen sheet.now places call area.old (held shift.hand) (string_bytes out.old) (is_ok shift.written) area.new (held result.hand) (string_bytes out.new) (is_ok result.written) }
 {
     let Shift { hand, written } = shift;
     let Ran { done, hand } = run_call(area, hand, call, sheet);
     let line = write_line(out, area, places, call, done);
     Shift {
         hand,
-        written: written && line.is_ok(),
+        written: written.and(line),
     }
 }
 
@@ -61,14 +62,15 @@ fn run_calls<S: Street>(
     let mut out = String::new(heap);
     let mut shift = Shift {
         hand: None,
-        written: true,
+        written: Ok(()),
     };
     for call in calls {
         shift = next_line(area, shift, *call, sheet, places, &mut out);
     }
     let Shift { hand, written } = shift;
     close(area, hand);
-    if written { Ok(out) } else { Err(AllocError) }
+    written?;
+    Ok(out)
 }
 
 // The line of a sheet that was refused; an error is want of memory.
@@ -77,8 +79,8 @@ fn fault_line(heap: Global, why: ModelFault) -> Result<String, AllocError>
 {
     match why {
         ModelFault::Sheet(fault) => {
-            let done = Done::Refused(fault.into());
-            format!(in heap; "{done}\n")
+            let refusal = Refusal::from(fault);
+            format!(in heap; "refused {refusal}\n")
         }
         ModelFault::Memory(error) => Err(error),
     }
@@ -104,31 +106,13 @@ fn run_sheet<M: Model + Drop>(
     }
 }
 
-fn network_day(heap: Global, input: &[u8]) -> Result<String, AllocError>
-    ensures { IfOk result (λ s. NetworkDay input.now (string_bytes s)) }
+// The day on an input that holds a model sheet of this kind and a day sheet.
+fn day_of<S: ModelSheet>(heap: Global, input: &[u8]) -> Result<String, AllocError>
+    ensures { IfOk result (λ s. DayOn (S.sheet input.now) input.now (string_bytes s)) }
 {
-    match read_network(heap, input) {
+    match S::read(heap, input) {
         Ok(ModelRead { model, limits, end }) => run_sheet(heap, model, limits, rest_of(input, end)),
         Err(why) => fault_line(heap, why),
-    }
-}
-
-fn linear_day(heap: Global, input: &[u8]) -> Result<String, AllocError>
-    ensures { IfOk result (λ s. LinearDay input.now (string_bytes s)) }
-{
-    match read_linear(heap, input) {
-        Ok(ModelRead { model, limits, end }) => run_sheet(heap, model, limits, rest_of(input, end)),
-        Err(why) => fault_line(heap, why),
-    }
-}
-
-// Is the first word the one that begins a linear sheet?
-fn is_linear(input: &[u8]) -> bool
-    ensures { result ≡ begins_linear input.now }
-{
-    match section(input, 0, b"modes") {
-        Ok(_) => true,
-        Err(_) => false,
     }
 }
 
@@ -137,9 +121,9 @@ fn is_linear(input: &[u8]) -> bool
 pub fn run_day(heap: Global, input: &[u8]) -> Result<String, AllocError>
     ensures { IfOk result (λ s. Printed input.now (string_bytes s)) }
 {
-    if is_linear(input) {
-        linear_day(heap, input)
+    if section(input, 0, b"modes").is_ok() {
+        day_of::<LinearSheet>(heap, input)
     } else {
-        network_day(heap, input)
+        day_of::<NetworkSheet>(heap, input)
     }
 }

@@ -1,7 +1,7 @@
 // The records of the section `groups`.
 ghost use Rattle.day.specs.Tables.{group_at};
 
-use crate::table::read_table;
+use crate::table::read_numbers;
 use model::Model;
 use records::Record;
 use street::groups::Group;
@@ -27,15 +27,14 @@ impl<'a, M: Model> Record for GroupRecord<'a, M> {
         before: &[Group],
     ) -> Result<Recorded<Group>, SheetFault> {
         let mark = number(bytes, at, 0, 1)?;
-        let table = read_table(self.model, bytes, mark.end)?;
-        let arrivals = table.numbers;
-        let group = Group {
+        let Recorded {
+            item: arrivals,
+            end,
+        } = read_numbers(self.model, bytes, mark.end)?;
+        let item = Group {
             arrivals,
             dark: mark.value == 1,
         };
-        Ok(Recorded {
-            item: group,
-            end: table.end,
-        })
+        Ok(Recorded { item, end })
     }
 }

@@ -6,6 +6,5 @@ pub mod day;
 mod group;
 mod lines;
 pub mod read;
-mod rest;
 mod run;
 mod table;

@@ -1,20 +1,21 @@
 // Reading a day sheet: the sections `area`, `queues`, `groups` and `calls`.
 ghost use Rattle.std.specs.Prelude.{◌≡◌};
 ghost use Rattle.words.specs.Faults.{told};
-ghost use Rattle.records.specs.Sections.{ToldAs, ListedAs};
-ghost use Rattle.day.specs.Day.{area_section, queues_section, groups_section, calls_section, sections, day_sheet, day_of};
+ghost use Rattle.records.specs.Sections.{ToldAs};
+ghost use Rattle.day.specs.Day.{area_section, queues_section, sections, day_sheet, day_of};
 
 use crate::call::{CallRecord, DayCall};
 use crate::group::GroupRecord;
-use crate::table::{Table, read_table};
+use crate::table::read_numbers;
 use model::Model;
 use records::fault::ModelFault;
-use records::{Listed, read_section};
+use records::read_section;
 use std::alloc::Global;
 use street::groups::Group;
 use words::fault::SheetFault;
 use words::number::{number, section};
 use words::reading::Reading;
+use words::recorded::Recorded;
 use words::word::short_enough;
 
 // The area's number, the queues and groups of its street, and the calls.
@@ -35,51 +36,47 @@ fn area_section(bytes: &[u8], at: usize) -> Result<Reading<u32>, SheetFault>
 }
 
 // A queue for each place: exactly the model's places.
-fn queues_section<M: Model>(model: &M, bytes: &[u8], at: usize) -> Result<Table, SheetFault>
+fn queues_section<M: Model>(
+    model: &M,
+    bytes: &[u8],
+    at: usize,
+) -> Result<Recorded<[u32; 64]>, SheetFault>
     ensures { told result ≡ queues_section (M.Model.meaning model.now) bytes.now at }
 {
     let places = model.places() as u32;
     let named = section(bytes, at, b"queues")?;
     let count = number(bytes, named, places, places)?;
-    read_table(model, bytes, count.end)
+    read_numbers(model, bytes, count.end)
 }
 
-// At most 64 groups.
-fn groups_section<M: Model>(
-    heap: Global,
-    model: &M,
-    bytes: &[u8],
-    at: usize,
-) -> Result<Listed<Group>, ModelFault>
-    ensures { ListedAs result (groups_section (M.Model.meaning model.now) bytes.now at) }
-{
-    read_section(heap, &GroupRecord { model }, bytes, at, b"groups", 0, 64)
-}
-
-// At most 1000 calls.
-fn calls_section<M: Model>(
-    heap: Global,
-    model: &M,
-    bytes: &[u8],
-    at: usize,
-) -> Result<Listed<DayCall>, ModelFault>
-    ensures { ListedAs result (calls_section (M.Model.meaning model.now) bytes.now at) }
-{
-    read_section(heap, &CallRecord { model }, bytes, at, b"calls", 0, 1000)
-}
-
-// The four sections, one after the other.
+// The four sections, one after the other: at most 64 groups, and at most 1000 calls.
 fn read_sections<M: Model>(heap: Global, model: &M, bytes: &[u8]) -> Result<Day, ModelFault>
     ensures { ToldAs day_of result (sections (M.Model.meaning model.now) bytes.now) }
 {
     let area = area_section(bytes, 0)?;
     let queues = queues_section(model, bytes, area.end)?;
-    let groups = groups_section(heap, model, bytes, queues.end)?;
-    let calls = calls_section(heap, model, bytes, groups.end)?;
-    let numbers = queues.numbers;
+    let groups = read_section(
+        heap,
+        &GroupRecord { model },
+        bytes,
+        queues.end,
+        b"groups",
+        0,
+        64,
+    )?;
+    let calls = read_section(
+        heap,
+        &CallRecord { model },
+        bytes,
+        groups.end,
+        b"calls",
+        0,
+        1000,
+    )?;
+    let Recorded { item, end: _ } = queues;
     Ok(Day {
         number: area.value,
-        queues: numbers,
+        queues: item,
         groups: groups.items,
         calls: calls.items,
     })

@@ -1,16 +1,18 @@
 // Running the calls of a day, one at a time, with the duty in hand.
 ghost use Rattle.std.specs.Prelude.{◌≡◌, Some, None};
-ghost use Rattle.lives.specs.Calls.{take, advance, change, give_back, rows, street, done};
-ghost use Rattle.area.specs.Code.{outcome, area_of};
+ghost use Rattle.lives.specs.Calls.{take, advance, change, give_back};
+ghost use Rattle.lives.specs.Faults.{area_refusal};
+ghost use Rattle.area.specs.Code.{area_of};
 ghost use Rattle.day.specs.declared.call.DayCall.TheVariants.{Shelve, Take, Advance, Change, Give};
-ghost use Rattle.day.specs.Running.{held, InHand, area_call, done_of, RanAs};
+ghost use Rattle.day.specs.declared.run.Done.TheVariants.{Refused};
+ghost use Rattle.day.specs.Running.{held, InHand, area_call, answered, RanAs};
 
 use crate::call::DayCall;
-use crate::rest::rest_of;
 use area::area::{Area, Duty, Unspent};
 use lives::fault::AreaFault;
 use refusal::Refusal;
 use street::{Showing, Street};
+use words::word::rest_of;
 
 // What a call came to.
 #[derive(Clone, Copy)]
@@ -35,31 +37,23 @@ pub struct Ran {
     pub hand: Option<Duty>,
 }
 
-fn shelved(answer: Result<usize, AreaFault>, number: usize, place: usize) -> Done
-    ensures { result ≡ done_of (Shelve number place) (outcome rows answer) }
-{
-    match answer {
-        Ok(count) => Done::Shelved(count),
-        Err(fault) => Done::Refused(Refusal::from(fault)),
+// What the street answered.
+impl From<Showing> for Done {
+    ghost from_gives = { λ s r. r ≡ answered s };
+
+    fn from(answer: Showing) -> Done {
+        match answer {
+            Showing::Shown => Done::Shown,
+            Showing::Dark => Done::Dark,
+        }
     }
 }
 
-fn stepped(answer: Result<Showing, AreaFault>) -> Done
-    ensures { result ≡ done_of Advance (outcome street answer) }
-{
-    match answer {
-        Ok(Showing::Shown) => Done::Shown,
-        Ok(Showing::Dark) => Done::Dark,
-        Err(fault) => Done::Refused(Refusal::from(fault)),
-    }
-}
+impl From<AreaFault> for Done {
+    ghost from_gives = { λ e r. r ≡ Refused (area_refusal e) };
 
-fn changed(answer: Result<(), AreaFault>, number: usize) -> Done
-    ensures { result ≡ done_of (Change number) (outcome (λ _. done) answer) }
-{
-    match answer {
-        Ok(()) => Done::Changed,
-        Err(fault) => Done::Refused(Refusal::from(fault)),
+    fn from(fault: AreaFault) -> Done {
+        Done::Refused(fault.into())
     }
 }
 
@@ -73,10 +67,8 @@ fn run_shelve<S: Street>(
     ensures { RanAs S.Model.meaning S.Street.seen (area_call sheet.now (Shelve number place) (held hand)) (Shelve number place) area.old (held hand) result.done area.new (held result.hand) }
 {
     let answer = area.shelve(number, rest_of(sheet, place));
-    Ran {
-        done: shelved(answer, number, place),
-        hand,
-    }
+    let done = answer.map_or_else(|fault| fault.into(), |rows| Done::Shelved(rows));
+    Ran { done, hand }
 }
 
 fn run_take<S: Street>(area: &mut Area<S>, hand: Option<Duty>, number: usize) -> Ran
@@ -92,7 +84,7 @@ fn run_take<S: Street>(area: &mut Area<S>, hand: Option<Duty>, number: usize) ->
             Some(_held) => unreachable(),
         },
         Err(fault) => Ran {
-            done: Done::Refused(Refusal::from(fault)),
+            done: fault.into(),
             hand,
         },
     }
@@ -102,8 +94,9 @@ fn run_advance<S: Street>(area: &mut Area<S>, duty: Duty) -> Ran
     ensures { RanAs S.Model.meaning S.Street.seen (Some (advance duty.area)) Advance area.old (Some duty.area) result.done area.new (held result.hand) }
 {
     let answer = area.advance(&duty);
+    let done = answer.map_or_else(|fault| fault.into(), |showing| showing.into());
     Ran {
-        done: stepped(answer),
+        done,
         hand: Some(duty),
     }
 }
@@ -112,8 +105,9 @@ fn run_change<S: Street>(area: &mut Area<S>, duty: Duty, number: usize) -> Ran
     ensures { RanAs S.Model.meaning S.Street.seen (Some (change duty.area number)) (Change number) area.old (Some duty.area) result.done area.new (held result.hand) }
 {
     let answer = area.change(&duty, number);
+    let done = answer.map_or_else(|fault| fault.into(), |()| Done::Changed);
     Ran {
-        done: changed(answer, number),
+        done,
         hand: Some(duty),
     }
 }
@@ -127,19 +121,9 @@ fn run_give<S: Street>(area: &mut Area<S>, duty: Duty) -> Ran
             hand: None,
         },
         Err(Unspent { duty, fault }) => Ran {
-            done: Done::Refused(Refusal::from(fault)),
+            done: fault.into(),
             hand: Some(duty),
         },
-    }
-}
-
-fn no_duty() -> Ran
-    ensures done { result.done ≡ Done.NoDuty }
-    ensures hand { held result.hand ≡ None }
-{
-    Ran {
-        done: Done::NoDuty,
-        hand: None,
     }
 }
 
@@ -160,7 +144,10 @@ pub(crate) fn run_call<S: Street>(
         (DayCall::Advance, Some(duty)) => run_advance(area, duty),
         (DayCall::Change(number), Some(duty)) => run_change(area, duty, number),
         (DayCall::Give, Some(duty)) => run_give(area, duty),
-        (DayCall::Advance | DayCall::Change(_) | DayCall::Give, None) => no_duty(),
+        (DayCall::Advance | DayCall::Change(_) | DayCall::Give, None) => Ran {
+            done: Done::NoDuty,
+            hand: None,
+        },
     }
 }
 

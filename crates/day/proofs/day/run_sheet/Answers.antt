@@ -1,7 +1,7 @@
 use Rattle.std.proofs.Common.{◌≡◌, None, vec_items, string_bytes, ap, ◌∙◌, subst}
 use Rattle.std.proofs.lemmas.Result.{IfOk-weaker}
 use Rattle.model.specs.Model.{Meaning}
-use Rattle.street.specs.Standing.{seen_of}
+use Rattle.street.specs.Fed.{fed_seen}
 use Rattle.lives.specs.Area.{Area, fresh_book}
 use Rattle.area.specs.Code.{area_of, limits_of}
 use Rattle.day.specs.Day.{DaySaid, day_of}
@@ -19,7 +19,7 @@ returns-in-Ok g c =
     let made = c.new-area.ensures in
     let a = c.new-area.result in
     let model : g.M.Model.meaning a.street.model ≡ m = ap (λ s. g.M.Model.meaning s.model) made.street ∙ street.model in
-    let area : Area = area_of (λ s. seen_of (g.M.Model.meaning s.model) s.standing) a in
+    let area : Area = area_of (fed_seen g.M.Model.meaning) a in
     let fresh : area ≡ fresh_area m d = made.fresh ∙ (λ i. record { number = d.number; book = fresh_book (street.model i); street = street.seen i }) in
     IfOk-weaker c.run_calls.result
     (λ s. Lines (g.M.Model.meaning a.street.model) (limits_of a) bs c.places-places.result c.as_slice-in-Ok.result.now area None (string_bytes s))
