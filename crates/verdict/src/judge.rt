@@ -1,5 +1,5 @@
 // From the bytes of an input to its verdict.
-ghost use Rattle.std.specs.Prelude.{◌≡◌, drop, IfOk};
+ghost use Rattle.std.specs.Prelude.{◌≡◌, IfOk};
 ghost use Rattle.plan_sheet.specs.Accepts.{checked_sheet};
 ghost use Rattle.verdict.specs.Judged.{verdict_of, verdict_after, Faulted, begins_linear, verdict_on, ModelSaid, Right};
 
@@ -13,17 +13,7 @@ use plan_sheet::check::check_sheet;
 use records::fault::ModelFault;
 use std::alloc::{AllocError, Global};
 use words::number::section;
-
-// What follows the first bytes of an input.
-fn after(input: &[u8], end: usize) -> &[u8]
-    ensures { result.now ≡ drop end input.now }
-{
-    if end < input.len() {
-        &input[end..]
-    } else {
-        &[]
-    }
-}
+use words::rest::rest_of;
 
 // The verdict on a plan sheet for the model.
 fn judge_plan<M: Model>(model: &M, limits: &[Limit], sheet: &[u8]) -> Verdict
@@ -51,7 +41,11 @@ fn judge_model<S: ModelSheet>(heap: Global, input: &[u8]) -> Result<Verdict, All
     ensures right { IfOk result (Right (S.says input.now) input.now) }
 {
     match S::read(heap, input) {
-        Ok(read) => Ok(judge_plan(&read.model, read.limits.as_slice(), after(input, read.end))),
+        Ok(read) => Ok(judge_plan(
+            &read.model,
+            read.limits.as_slice(),
+            rest_of(input, read.end),
+        )),
         Err(why) => judge_fault(why),
     }
 }

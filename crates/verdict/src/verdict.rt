@@ -5,6 +5,7 @@ ghost use Rattle.verdict.specs.Text.{verdict_text};
 use refusal::Refusal;
 use std::fmt;
 
+// No Result: a refusal is a verdict as good as the other, and each is a line that is printed.
 #[derive(Clone, Copy)]
 pub enum Verdict {
     Shelved(usize),
@@ -17,12 +18,7 @@ impl fmt::Display for Verdict {
     fn fmt<W: fmt::Write>(&self, f: &mut fmt::Formatter<W>) -> fmt::Result {
         match self {
             Verdict::Shelved(rows) => write!(f, "shelved {rows}"),
-            Verdict::Refused(refusal) => {
-                let number = refusal.number;
-                let a = refusal.a;
-                let b = refusal.b;
-                write!(f, "refused {number} {a} {b}")
-            }
+            Verdict::Refused(refusal) => write!(f, "refused {refusal}"),
         }
     }
 }

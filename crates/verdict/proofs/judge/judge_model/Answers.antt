@@ -12,7 +12,7 @@ returns-in-Ok g c =
     let h = c.in-Ok.ensures in
     let meaning = g.S.Made.Model.meaning in
     let plan : c.judge_plan.result ≡ verdict_of (checked_sheet (meaning v.model) (vec_items v.limits) (drop v.end bs)) =
-    c.judge_plan.ensures ∙ (λ i. verdict_of (checked_sheet (meaning v.model) (c.as_slice.ensures.value i) (c.after.ensures i))) in
+    c.judge_plan.ensures ∙ (λ i. verdict_of (checked_sheet (meaning v.model) (c.as_slice.ensures.value i) (c.rest_of.ensures i))) in
     let e = judged_read (content_by meaning) (g.S.ModelSheet.says bs) bs (g.S.ModelSheet.sheet bs) v (g.met.S.Made.Model.lawful v.model) h.is h.exact c.judge_plan.result plan in
     record { is = e.0; right = e.1 }
 
