@@ -1,10 +1,10 @@
 -- What a link would let out, from the link that stands there.
-use Rattle.std.proofs.Common.{◌≡◌, ℕ, ◌-◌, ◌/◌, ◌%◌, ◌^◌, ◌<◌, ◌≤◌, min, Bool, false, cond, eqb, ltb, ◌&&◌, List, get_or, Some, None, Option, sym, ap, ◌∙◌, le_refl, refl, ⊎_elim, pow_mono, arith}
+use Rattle.std.proofs.Common.{◌≡◌, ℕ, ◌/◌, ◌%◌, ◌^◌, ◌<◌, ◌≤◌, min, Bool, false, cond, eqb, List, get_or, Some, None, Option, sym, ap, ◌∙◌, le_refl, refl, ⊎_elim, pow_mono, arith}
 use Rattle.std.specs.Prelude.{MatchOption, SomeIff}
 use Rattle.std.specs.Option.{option_map, unwrap_or}
 use Rattle.std.specs.Slice.{IsItemAt}
 use denote.Ref.{Bor}
-use Rattle.std.proofs.lemmas.Bool.{cond_both, lt-ltb, cases_lt}
+use Rattle.std.proofs.lemmas.Bool.{cond_both, cases_lt}
 use Rattle.std.proofs.Math.Nat.{div-eq_of_lt}
 use Rattle.network.specs.declared.links.Link.{Link}
 use Rattle.network.specs.Sound.{no_link}
@@ -21,21 +21,14 @@ module _ (n : Roads) (row q : List ℕ) (k y : ℕ) where
       → MatchOption r (y ≡ 0) (λ l. y ≡ cond (green l.now row) (min l.now.flow (get_or q k 0)) 0) → y ≡ wish n row q k
   wish_at r e h = wish_is r (e.4 (le_refl k) no_link) h
 
--- the bit of the mask at the mode m, where the mask has one there
-module _ (mask m i : ℕ) (b : Bool) (w : mask < 256) (h : 0 < m) (e : i ≡ m - 1) where
-  abbrev bit : Bool
-  bit = eqb ((mask / 2 ^ (m - 1)) % 2) 1
-
-  green_bit : b ≡ bit → b ≡ ltb 0 m && bit
-  green_bit p = p ∙ sym (ap (λ z. z && bit) (lt-ltb 0 m h))
-
-  -- there is none past the eighth
-  no_bit : (i < 8 → ⊥) → bit ≡ false
+-- whether bit i of the mask is 1: there is none past the eighth
+module _ (mask i : ℕ) (b : Bool) (w : mask < 256) where
+  no_bit : (i < 8 → ⊥) → eqb (mask / 2 ^ i % 2) 1 ≡ false
   no_bit n =
-      let far : 2 ^ 8 ≤ 2 ^ (m - 1) = pow_mono (⊎_elim (λ l. absurd (n (omega arith))) (λ l. l) (cases_lt (m - 1) 8)) in
-      let none : mask / 2 ^ (m - 1) ≡ 0 = div-eq_of_lt (omega arith) in
+      let far : 2 ^ 8 ≤ 2 ^ i = pow_mono (⊎_elim (λ l. absurd (n l)) (λ l. l) (cases_lt i 8)) in
+      let none : mask / 2 ^ i ≡ 0 = div-eq_of_lt (omega arith) in
       ap (λ z. eqb (z % 2) 1) none
 
-  pub green_shown : (r : Option ℕ) → SomeIff r (i < 8) (mask / 2 ^ i) → MatchOption r (b ≡ false) (λ x. b ≡ eqb (x % 2) 1) → b ≡ ltb 0 m && bit
-  green_shown None s t = green_bit (t ∙ sym (no_bit s))
-  green_shown (Some x) s t = green_bit (t ∙ ap (λ z. eqb (z % 2) 1) (s.1 ∙ ap (λ j. mask / 2 ^ j) e))
+  pub bit_shown : (r : Option ℕ) → SomeIff r (i < 8) (mask / 2 ^ i) → MatchOption r (b ≡ false) (λ x. b ≡ eqb (x % 2) 1) → b ≡ eqb (mask / 2 ^ i % 2) 1
+  bit_shown None s t = t ∙ sym (no_bit s)
+  bit_shown (Some x) s t = t ∙ ap (λ z. eqb (z % 2) 1) s.1

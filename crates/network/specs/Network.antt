@@ -41,9 +41,13 @@ loads n = whole (λ k. (link n k).load)
 abbrev pub mode : Link → List ℕ → ℕ
 mode l r = slice_index r (l.head - 1)
 
--- phase p shows the link green where bit p - 1 of its mask is 1
+-- phase p, counted from 0, shows the link green where bit p of its mask is 1
+abbrev pub green_in : ℕ → Link → Bool
+green_in p l = l.mask / 2 ^ p % 2 == 1
+
+-- the row shows the link green: its mode is one of the phases, counted from 1, that do
 abbrev pub green : Link → List ℕ → Bool
-green l r = nat_lt 0 (mode l r) && (l.mask / 2 ^ (mode l r - 1)) % 2 == 1
+green l r = nat_lt 0 (mode l r) && green_in (mode l r - 1) l
 
 -- what link k would let out: nothing at red, and at green its queue, as far as its flow goes
 unfoldable pub wish : Roads → List ℕ → List ℕ → ℕ → ℕ

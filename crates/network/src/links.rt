@@ -1,6 +1,6 @@
 // Links of road, and the turns between them.
 ghost use Rattle.std.specs.Prelude.{◌≡◌};
-ghost use Rattle.network.specs.Network.{joins};
+ghost use Rattle.network.specs.Network.{green_in, joins};
 
 // At the head of a link a junction shows it green in the phases of its mask: bit p - 1 for phase p.
 // The top is the link's storage, the flow the most that it lets out in a step, the load the most that arrives in one.
@@ -24,6 +24,17 @@ pub struct Turn {
     pub to: usize,
     pub share: u32,
     pub supply: u32,
+}
+
+impl Link {
+    // Whether a phase of the link's junction, counted from 0, shows it green.
+    pub fn is_green_in(&self, phase: u32) -> bool
+        ensures { result ≡ green_in phase self.now }
+    {
+        self.mask
+            .checked_shr(phase)
+            .is_some_and(|bits| bits % 2 == 1)
+    }
 }
 
 impl Turn {

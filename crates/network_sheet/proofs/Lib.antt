@@ -1,5 +1,5 @@
 mod Masks
-mod Steps
+mod Room
 mod Asked
 mod LinkExact
 mod TurnExact

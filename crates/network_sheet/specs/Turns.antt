@@ -1,6 +1,6 @@
 -- The records of the section `turns`. Phases are counted from 0 here, as the bits of a mask are.
-use Rattle.std.specs.Prelude.{◌≡◌, ℕ, ◌+◌, ◌-◌, ◌/◌, ◌%◌, ◌^◌, ◌<◌, ◌≤◌, Bool, false, cond, ◌&&◌, ◌||◌, List, [], ◌∷◌, Ok, decimal, sum_by, ◌==◌, ◌≢◌, nat_le, slice_index_or}
-use Rattle.std.specs.List.{AllByRecursion}
+use Rattle.std.specs.Prelude.{◌≡◌, ℕ, ◌+◌, ◌-◌, ◌<◌, ◌≤◌, Bool, cond, ◌&&◌, List, [], ◌∷◌, Ok, decimal, sum_by, ◌==◌, ◌≢◌, nat_le, slice_index_or}
+use Rattle.std.specs.List.{AllByRecursion, list_any}
 use Rattle.refusal.specs.Questions.{Told, no, then}
 use Rattle.words.specs.Numbers.{number_at}
 use Rattle.words.specs.Spelling.{Spelled}
@@ -10,15 +10,11 @@ use Rattle.model.specs.State.{every}
 use Rattle.network.specs.declared.links.Link.{Link}
 use Rattle.network.specs.declared.links.Turn.{Turn}
 use Rattle.network.specs.Sound.{no_link}
-use Rattle.network.specs.Network.{joins}
+use Rattle.network.specs.Network.{joins, green_in}
 
 -- a link by its number, counted from 1
 abbrev pub numbered : List Link → ℕ → Link
 numbered links n = slice_index_or links (n - 1) no_link
-
--- the phase shows the link green
-abbrev pub green_in : ℕ → Link → Bool
-green_in phase l = l.mask / 2 ^ phase % 2 == 1
 
 -- the link `to` begins where the link `from` ends
 abbrev pub goes_on : List Link → Turn → Bool
@@ -26,8 +22,7 @@ goes_on links t = (numbered links t.to).tail == (numbered links t.from).head
 
 -- the pair is given among the turns
 abbrev pub given_in : ℕ → ℕ → List Turn → Bool
-given_in from to [] = false
-given_in from to (t ∷ ts) = joins t from to || given_in from to ts
+given_in from to = list_any (λ t. joins t from to)
 
 -- what the turn adds to the shares of the link `from`
 abbrev pub share_from : ℕ → Turn → ℕ

@@ -31,15 +31,14 @@ impl Record for SignalRecord {
 fn phases_of(phases: &[u8], junction: usize) -> u8
     ensures { result ≡ slice_index phases.now (junction - 1) }
 {
-    let i = junction.saturating_sub(1);
-    if i < phases.len() { phases[i] } else { 0 }
+    phases.get(junction.saturating_sub(1)).copied().unwrap_or(0)
 }
 
 // Has the mask no bit beyond these phases?
 fn only_phases(mask: u8, phases: u8) -> bool
     ensures { result ≡ nat_lt mask (2 ^ phases) }
 {
-    phases >= 8 || mask >> phases == 0
+    mask.checked_shr(u32::from(phases)).unwrap_or(0) == 0
 }
 
 // A link between so many signals with these phases.
@@ -72,10 +71,8 @@ impl<'a> Record for LinkRecord<'a> {
             load: load.value,
             mask: mask.value as u8,
         };
-        if link.tail == link.head {
-            return Err(SheetFault::BadLink(name.place));
-        }
-        if !only_phases(link.mask, phases_of(self.phases, link.head)) {
+        let phases = phases_of(self.phases, link.head);
+        if link.tail == link.head || !only_phases(link.mask, phases) {
             return Err(SheetFault::BadLink(name.place));
         }
         Ok(Recorded {

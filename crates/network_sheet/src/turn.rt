@@ -1,6 +1,9 @@
 // The records of the section `turns`.
-ghost use Rattle.std.specs.Prelude.{◌≡◌, ◌^◌, ◌<◌, ◌≤◌, sum_by};
-ghost use Rattle.network.specs.Network.{joins};
+ghost use Rattle.std.specs.Prelude.{◌≡◌, ℕ, ◌+◌, MatchOption, sum_by, nat_le};
+ghost use Rattle.std.specs.Fn.{FnReturnsAt};
+ghost use Rattle.network.specs.Sound.{no_link};
+ghost use Rattle.network.specs.Network.{green_in};
+ghost use Rattle.network.specs.declared.links.Turn.{Turn};
 ghost use Rattle.network_sheet.specs.Turns.{numbered, given_in, share_from, supply_into, goes_on, within_supply, has_room, turn_at};
 
 use network::links::{Link, Turn};
@@ -9,119 +12,27 @@ use words::fault::SheetFault;
 use words::number::number;
 use words::recorded::Recorded;
 
-// The junction where a link begins, the one where it ends, and its mask.
-// Links are counted from 1; out of range each is 0.
-fn tail_of(links: &[Link], number: usize) -> usize
-    ensures { result ≡ (numbered links.now number).tail }
+// What the turn adds to the shares of the link `from`.
+fn share_from(turn: &Turn, from: usize) -> u32
+    ensures { result ≡ share_from from turn.now }
 {
-    let i = number.saturating_sub(1);
-    if i < links.len() { links[i].tail } else { 0 }
+    if turn.from == from { turn.share } else { 0 }
 }
 
-fn head_of(links: &[Link], number: usize) -> usize
-    ensures { result ≡ (numbered links.now number).head }
+// Do these parts of the turns before the turn, and its own with them, make at most 1000?
+fn fits_with<F: Fn(&Turn) -> u32>(before: &[Turn], turn: &Turn, part: F) -> bool
+    requires { F.IsAlwaysCallable part }
+    ensures { (h : Turn → ℕ) → ((t : Turn) (r : ℕ) → FnReturnsAt F.Fn part t r → r ≡ h t) → result ≡ nat_le (sum_by h before.now + h turn.now) 1000 }
 {
-    let i = number.saturating_sub(1);
-    if i < links.len() { links[i].head } else { 0 }
-}
-
-fn mask_of(links: &[Link], number: usize) -> u8
-    ensures { result ≡ (numbered links.now number).mask }
-{
-    let i = number.saturating_sub(1);
-    if i < links.len() { links[i].mask } else { 0 }
-}
-
-// Does the link `to` begin where the link `from` ends?
-fn joined(links: &[Link], turn: &Turn) -> bool
-    ensures { result ≡ goes_on links.now turn.now }
-{
-    tail_of(links, turn.to) == head_of(links, turn.from)
-}
-
-fn same_pair(t: &Turn, turn: &Turn) -> bool
-    ensures { result ≡ joins t.now turn.now.from turn.now.to }
-{
-    t.from == turn.from && t.to == turn.to
+    let others: u128 = before.iter().map(|t| u128::from(part(t))).sum();
+    others.saturating_add(u128::from(part(turn))) <= 1000
 }
 
 // Is the pair of links given before?
 fn given(before: &[Turn], turn: &Turn) -> bool
     ensures { result ≡ given_in turn.now.from turn.now.to before.now }
 {
-    for t in before {
-        if same_pair(t, turn) {
-            return true;
-        }
-    }
-    false
-}
-
-fn share_of(t: &Turn, from: usize) -> u32
-    ensures { result ≡ share_from from t.now }
-{
-    if t.from == from { t.share } else { 0 }
-}
-
-// The sum of the shares of a link.
-fn shares(before: &[Turn], from: usize) -> u128
-    ensures is { result ≡ sum_by (share_from from) before.now }
-    ensures small { result ≤ 2 ^ 96 }
-{
-    let mut sum = 0;
-    for t in before {
-        sum += u128::from(share_of(t, from));
-    }
-    sum
-}
-
-// The supply of the turn into a link in a phase, counted from 0: nothing where its own link is red then.
-fn supply_of(links: &[Link], t: &Turn, to: usize, phase: u32) -> u32
-    requires { phase < 8 }
-    ensures { result ≡ supply_into links.now phase to t.now }
-{
-    if t.to == to && (mask_of(links, t.from) >> phase) % 2 == 1 {
-        t.supply
-    } else {
-        0
-    }
-}
-
-// The sum of the supplies into a link over the links that are green in the phase.
-fn supplies(links: &[Link], before: &[Turn], to: usize, phase: u32) -> u128
-    requires { phase < 8 }
-    ensures is { result ≡ sum_by (supply_into links.now phase to) before.now }
-    ensures small { result ≤ 2 ^ 96 }
-{
-    let mut sum = 0;
-    for t in before {
-        sum += u128::from(supply_of(links, t, to, phase));
-    }
-    sum
-}
-
-// Are the supplies in the phase, that of the turn with them, at most 1000?
-fn supplied_in(links: &[Link], before: &[Turn], turn: &Turn, phase: u32) -> bool
-    requires { phase < 8 }
-    ensures { result ≡ within_supply links.now before.now turn.now phase }
-{
-    let own = supply_of(links, turn, turn.to, phase);
-    supplies(links, before, turn.to, phase) + u128::from(own) <= 1000
-}
-
-// Is there room for the turn's share and supply beside those of the turns before it?
-fn fits(links: &[Link], before: &[Turn], turn: &Turn) -> bool
-    ensures { result ≡ has_room links.now before.now turn.now }
-{
-    if shares(before, turn.from) + u128::from(turn.share) > 1000 {
-        return false;
-    }
-    for phase in 0..8 {
-        if !supplied_in(links, before, turn, phase) {
-            return false;
-        }
-    }
-    true
+    before.iter().any(|t| t.joins(turn.from, turn.to))
 }
 
 // A turn between these links, of which there are so many.
@@ -129,6 +40,58 @@ fn fits(links: &[Link], before: &[Turn], turn: &Turn) -> bool
 pub struct TurnRecord<'a> {
     pub links: &'a [Link],
     pub count: u32,
+}
+
+impl<'a> TurnRecord<'a> {
+    // A link by its number, counted from 1.
+    fn link(&self, number: usize) -> Option<&Link>
+        ensures { MatchOption result (numbered self.now.links.now number ≡ no_link) (λ l. l.now ≡ numbered self.now.links.now number) }
+    {
+        self.links.get(number.saturating_sub(1))
+    }
+
+    // Does the link `to` begin where the link `from` ends? Out of range each is 0.
+    fn goes_on(&self, turn: &Turn) -> bool
+        ensures { result ≡ goes_on self.now.links.now turn.now }
+    {
+        let tail = self.link(turn.to).map_or(0, |link| link.tail);
+        let head = self.link(turn.from).map_or(0, |link| link.head);
+        tail == head
+    }
+
+    // Does the phase, counted from 0, show the link green? Out of range none does.
+    fn is_green(&self, number: usize, phase: u32) -> bool
+        ensures { result ≡ green_in phase (numbered self.now.links.now number) }
+    {
+        self.link(number)
+            .is_some_and(|link| link.is_green_in(phase))
+    }
+
+    // What the turn adds to the supplies into the link `to` in the phase: nothing where its own link is red then.
+    fn supply_into(&self, turn: &Turn, to: usize, phase: u32) -> u32
+        ensures { result ≡ supply_into self.now.links.now phase to turn.now }
+    {
+        if turn.to == to && self.is_green(turn.from, phase) {
+            turn.supply
+        } else {
+            0
+        }
+    }
+
+    // Is there room for the turn's supply in the phase?
+    fn is_supplied(&self, before: &[Turn], turn: &Turn, phase: u32) -> bool
+        ensures { result ≡ within_supply self.now.links.now before.now turn.now phase }
+    {
+        fits_with(before, turn, |t| self.supply_into(t, turn.to, phase))
+    }
+
+    // Is there room for the turn's share and supply beside those of the turns before it?
+    fn has_room(&self, before: &[Turn], turn: &Turn) -> bool
+        ensures { result ≡ has_room self.now.links.now before.now turn.now }
+    {
+        fits_with(before, turn, |t| share_from(t, turn.from))
+            && (0..8).all(|phase| self.is_supplied(before, turn, phase))
+    }
 }
 
 impl<'a> Record for TurnRecord<'a> {
@@ -147,10 +110,10 @@ impl<'a> Record for TurnRecord<'a> {
             share: share.value,
             supply: supply.value,
         };
-        if !joined(self.links, &turn) || given(before, &turn) {
+        if !self.goes_on(&turn) || given(before, &turn) {
             return Err(SheetFault::BadTurn(from.place));
         }
-        if !fits(self.links, before, &turn) {
+        if !self.has_room(before, &turn) {
             return Err(SheetFault::Overfull(from.place));
         }
         Ok(Recorded {

@@ -33,11 +33,7 @@ impl Link {
         ensures { result ≡ green self.now row.now }
     {
         let mode = self.mode(row);
-        mode > 0
-            && self
-                .mask
-                .checked_shr(u32::from(mode - 1))
-                .is_some_and(|rest| rest % 2 == 1)
+        mode > 0 && self.is_green_in(u32::from(mode - 1))
     }
 
     // What the link would let out of its queue.
