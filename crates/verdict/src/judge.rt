@@ -13,7 +13,7 @@ use plan_sheet::check::check_sheet;
 use records::fault::ModelFault;
 use std::alloc::{AllocError, Global};
 use words::number::section;
-use words::rest::rest_of;
+use words::word::rest_of;
 
 // The verdict on a plan sheet for the model.
 fn judge_plan<M: Model>(model: &M, limits: &[Limit], sheet: &[u8]) -> Verdict

@@ -6,5 +6,4 @@ pub mod name;
 pub mod number;
 pub mod reading;
 pub mod recorded;
-pub mod rest;
 pub mod word;
