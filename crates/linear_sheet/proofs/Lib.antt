@@ -1,3 +1,3 @@
 mod PlaceExact
 mod Ranges
-mod Whole
+pub mod Whole

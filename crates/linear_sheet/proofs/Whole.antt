@@ -6,11 +6,13 @@ use Rattle.words.proofs.Due.{short_stands, short_read}
 use Rattle.records.specs.declared.fault.ModelFault.{ModelFault}
 use Rattle.records.specs.Sections.{ToldAs, Exactly}
 use Rattle.records.proofs.Exactness.{section_stands_as, section_reads_as, exactly}
-use Rattle.linear.specs.Lines.{Lines}
+use Rattle.linear.specs.Lines.{Lines, linear}
 use Rattle.limit_sheet.specs.Limits.{limits_section, limit_at, LimitSaid}
 use Rattle.limit_sheet.proofs.Exactness.{limit_exact}
 use Rattle.model_sheet.specs.declared.ModelRead.{ModelRead}
-use Rattle.model_sheet.specs.Content.{Content}
+use Rattle.model_sheet.specs.Content.{Content, content_by, Means}
+use Rattle.model_sheet.proofs.Meant.{exactly_meant}
+use Rattle.linear.specs.Code.{lines}
 use Rattle.linear.specs.declared.linear.Linear.{Linear}
 use Rattle.linear_sheet.specs.Places.{place_at, entry_at, entry_count, PlaceSaid, EntrySaid}
 use Rattle.linear_sheet.specs.Linear.{modes_section, places_section, entries_section, content, sections, linear_sheet}
@@ -56,3 +58,7 @@ sheet_reads bs c s =
 -- the answer that is the definition's is exactly what the sheet says
 pub read_exactly : (bs : List ℕ) (r : Result (ModelRead Linear) ModelFault) → ToldAs content r (linear_sheet bs) → Exactly content (Says bs) r
 read_exactly bs r is = exactly content (Says bs) (linear_sheet bs) (sheet_stands bs) (sheet_reads bs) r is
+
+-- and exactly what it says by what its model means
+pub read_meant : (bs : List ℕ) (r : Result (ModelRead Linear) ModelFault) → Exactly content (Says bs) r → Exactly (content_by (λ m. linear (lines m))) (Means linear (Says bs)) r
+read_meant bs r x = exactly_meant linear content (Says bs) r x

@@ -91,6 +91,7 @@ impl ModelSheet for LinearSheet {
 
     ghost says = { λ bs. Means linear (Says bs) };
 
+    #[tactic(auto, using(crate::proofs::Whole::read_meant))]
     fn read(heap: Global, bytes: &[u8]) -> Result<ModelRead<Linear>, ModelFault> {
         read_linear(heap, bytes)
     }

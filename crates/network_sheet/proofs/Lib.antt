@@ -4,4 +4,4 @@ mod Asked
 mod LinkExact
 mod TurnExact
 mod Ranges
-mod Whole
+pub mod Whole

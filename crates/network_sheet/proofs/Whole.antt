@@ -6,11 +6,13 @@ use Rattle.words.proofs.Due.{short_stands, short_read}
 use Rattle.records.specs.declared.fault.ModelFault.{ModelFault}
 use Rattle.records.specs.Sections.{ToldAs, Exactly}
 use Rattle.records.proofs.Exactness.{section_stands_as, section_reads_as, exactly}
-use Rattle.network.specs.Network.{Roads}
+use Rattle.network.specs.Network.{Roads, network}
 use Rattle.limit_sheet.specs.Limits.{limits_section, limit_at, LimitSaid}
 use Rattle.limit_sheet.proofs.Exactness.{limit_exact}
 use Rattle.model_sheet.specs.declared.ModelRead.{ModelRead}
-use Rattle.model_sheet.specs.Content.{Content}
+use Rattle.model_sheet.specs.Content.{Content, content_by, Means}
+use Rattle.model_sheet.proofs.Meant.{exactly_meant}
+use Rattle.network.specs.Code.{roads}
 use Rattle.network.specs.declared.network.Network.{Network}
 use Rattle.network_sheet.specs.Links.{signal_at, link_at, SignalSaid, LinkSaid}
 use Rattle.network_sheet.specs.Turns.{turn_at, TurnSaid}
@@ -57,3 +59,7 @@ sheet_reads bs c s =
 -- the answer that is the definition's is exactly what the sheet says
 pub read_exactly : (bs : List ℕ) (r : Result (ModelRead Network) ModelFault) → ToldAs content r (network_sheet bs) → Exactly content (Says bs) r
 read_exactly bs r is = exactly content (Says bs) (network_sheet bs) (sheet_stands bs) (sheet_reads bs) r is
+
+-- and exactly what it says by what its model means
+pub read_meant : (bs : List ℕ) (r : Result (ModelRead Network) ModelFault) → Exactly content (Says bs) r → Exactly (content_by (λ m. network (roads m))) (Means network (Says bs)) r
+read_meant bs r x = exactly_meant network content (Says bs) r x

@@ -112,6 +112,7 @@ impl ModelSheet for NetworkSheet {
 
     ghost says = { λ bs. Means network (Says bs) };
 
+    #[tactic(auto, using(crate::proofs::Whole::read_meant))]
     fn read(heap: Global, bytes: &[u8]) -> Result<ModelRead<Network>, ModelFault> {
         read_network(heap, bytes)
     }
