@@ -10,7 +10,7 @@ use crate::place::Place;
 use std::array;
 
 impl Linear {
-    // The place of a number, counted from 1.
+    // The place of a number, counted from 1. Each model has its own, since it promises the tops and the loads of that model.
     pub(super) fn place(&self, number: usize) -> Option<&Place>
         ensures top { MatchOption result (told (tops (lines self.now)) number ≡ 0) (λ p. p.now.top ≡ told (tops (lines self.now)) number) }
         ensures load { MatchOption result (told (loads (lines self.now)) number ≡ 0) (λ p. p.now.load ≡ told (loads (lines self.now)) number) }

@@ -11,7 +11,7 @@ use crate::links::{Link, Turn};
 use std::array;
 
 impl Network {
-    // The link of a place, counted from 1.
+    // The link of a place, counted from 1. Each model has its own, since it promises the tops and the loads of that model.
     pub(super) fn link(&self, place: usize) -> Option<&Link>
         ensures top { MatchOption result (told (tops (roads self.now)) place ≡ 0) (λ l. l.now.top ≡ told (tops (roads self.now)) place) }
         ensures load { MatchOption result (told (loads (roads self.now)) place ≡ 0) (λ l. l.now.load ≡ told (loads (roads self.now)) place) }
