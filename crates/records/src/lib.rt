@@ -17,7 +17,7 @@ pub mod number;
 
 use fault::ModelFault;
 
-// What the records of a section say, and where the last of them ended.
+// What the records of a section say, and where the last of them ended. A vector is dropped and not copied, so this is no `Recorded`.
 #[derive(Drop)]
 pub struct Listed<T> {
     pub items: Vec<T>,

@@ -9,13 +9,14 @@ use crate::fault::SheetFault;
 use crate::reading::Reading;
 use crate::word::{Word, next_word};
 
+// A loop: that the total fits goes by the digits before, which the closure of a fold does not see.
 fn value_of(text: &[u8]) -> u32
     requires { numeral text.now ≡ true }
     ensures { result ≡ digits_value 10 text.now }
 {
     let mut n = 0;
     for b in text {
-        n = n * 10 + u32::from(*b - 48);
+        n = n * 10 + u32::from(*b - b'0');
     }
     n
 }
