@@ -8,28 +8,25 @@ use std::process::Abort;
 use std::test::Fail;
 use tables::{CORRIDOR, LINEAR, RANGES, RECORDS, TWO_MODES, WHOLE, WORDS, WORKED};
 use verdict::judge::judge;
-use verdict::verdict::Verdict;
 
-// One change of a sheet, and the number and places of the refusal, or 0, the count of rows and 0.
+// One change of a sheet, and the line that is told of it.
 #[derive(Clone, Copy)]
 pub struct Change {
     pub old: &'static str,
     pub new: &'static str,
-    pub told: (u8, usize, usize),
+    pub told: &'static str,
 }
 
-// A sheet, and what is told of it.
+// A sheet, and the line that is told of it.
 #[derive(Clone, Copy)]
 pub struct Whole {
     pub sheet: &'static str,
-    pub told: (u8, usize, usize),
+    pub told: &'static str,
 }
 
-fn told(heap: Global, input: &[u8]) -> Result<(u8, usize, usize), AllocError> {
-    match judge(heap, input)? {
-        Verdict::Shelved(rows) => Ok((0, rows, 0)),
-        Verdict::Refused(refusal) => Ok((refusal.number, refusal.a, refusal.b)),
-    }
+fn told(heap: Global, input: &[u8]) -> Result<String, AllocError> {
+    let verdict = judge(heap, input)?;
+    format!(in heap; "{verdict}")
 }
 
 fn try_changes(rt: &impl Abort, heap: Global, whole: &str, changes: &[Change]) -> Result<(), Fail> {
@@ -39,7 +36,7 @@ fn try_changes(rt: &impl Abort, heap: Global, whole: &str, changes: &[Change]) -
             .ok_or("the old words are not there")?;
         let new = change.new;
         let sheet = format!(in heap; "{front}{new}{back}")?;
-        assert_eq!(rt; told(heap, sheet.as_bytes())?, change.told);
+        assert_eq!(rt; told(heap, sheet.as_bytes())?.as_str(), change.told);
     }
     Ok(())
 }
@@ -72,7 +69,10 @@ fn linear_sheets(rt: HostRuntime) -> Result<(), Fail> {
 #[test]
 fn whole_sheets(rt: HostRuntime) -> Result<(), Fail> {
     for whole in &WHOLE {
-        assert_eq!(rt; told(rt.alloc(), whole.sheet.as_bytes())?, whole.told);
+        assert_eq!(rt;
+            told(rt.alloc(), whole.sheet.as_bytes())?.as_str(),
+            whole.told
+        );
     }
     Ok(())
 }
@@ -80,18 +80,19 @@ fn whole_sheets(rt: HostRuntime) -> Result<(), Fail> {
 // The corridor with separators behind it, up to so many bytes.
 fn padded(heap: Global, size: usize) -> Result<Vec<u8>, AllocError> {
     let mut sheet = CORRIDOR.as_bytes().to_vec(heap)?;
-    for _ in CORRIDOR.len()..size {
-        sheet.push(32)?;
-    }
+    sheet.resize(size, b' ')?;
     Ok(sheet)
 }
 
 #[test]
 fn length(rt: HostRuntime) -> Result<(), Fail> {
     let longest = padded(rt.alloc(), 65535)?;
-    assert_eq!(rt; told(rt.alloc(), longest.as_slice())?, (0, 2, 0));
+    assert_eq!(rt; told(rt.alloc(), longest.as_slice())?.as_str(), "shelved 2");
     let longer = padded(rt.alloc(), 65536)?;
-    assert_eq!(rt; told(rt.alloc(), longer.as_slice())?, (1, 0, 0));
+    assert_eq!(rt;
+        told(rt.alloc(), longer.as_slice())?.as_str(),
+        "refused 1 0 0"
+    );
     Ok(())
 }
 
@@ -99,8 +100,11 @@ fn length(rt: HostRuntime) -> Result<(), Fail> {
 #[test]
 fn full_sheets(rt: HostRuntime) -> Result<(), Fail> {
     let network = full_size(rt.alloc())?;
-    assert_eq!(rt; told(rt.alloc(), network.as_bytes())?, (0, 64, 0));
+    assert_eq!(rt;
+        told(rt.alloc(), network.as_bytes())?.as_str(),
+        "shelved 64"
+    );
     let linear = full_linear(rt.alloc())?;
-    assert_eq!(rt; told(rt.alloc(), linear.as_bytes())?, (0, 64, 0));
+    assert_eq!(rt; told(rt.alloc(), linear.as_bytes())?.as_str(), "shelved 64");
     Ok(())
 }

@@ -14,12 +14,7 @@ fn head(link: u32) -> u32 {
 
 // The four links into a junction are green in four phases.
 fn mask(link: u32) -> u32 {
-    match link / 16 % 4 {
-        0 => 1,
-        1 => 2,
-        2 => 4,
-        _ => 8,
-    }
+    1 << (link / 16 % 4)
 }
 
 fn write_links(sheet: &mut String) -> fmt::Result {
@@ -36,11 +31,9 @@ fn write_links(sheet: &mut String) -> fmt::Result {
 // The turns out of a link: one into each link that begins where it ends.
 fn write_turns_from(sheet: &mut String, link: u32) -> fmt::Result {
     let from = link % 64 + 1;
-    for other in 0..64u32 {
-        if tail(other) == head(link) {
-            let to = other + 1;
-            write!(sheet, " {from} {to} 150 1000")?;
-        }
+    for other in (0..64u32).filter(|other| tail(*other) == head(link)) {
+        let to = other % 64 + 1;
+        write!(sheet, " {from} {to} 150 1000")?;
     }
     Ok(())
 }
@@ -65,15 +58,12 @@ fn write_limits(sheet: &mut String) -> fmt::Result {
 
 fn write_rows(sheet: &mut String) -> fmt::Result {
     for row in 0..64u32 {
-        let mode = row % 4 + 1;
-        for _ in 0..32 {
-            write!(sheet, " {mode}")?;
-        }
+        write_times(sheet, 32, row % 4 + 1)?;
     }
     Ok(())
 }
 
-fn write_times(sheet: &mut String, times: u32, word: &str) -> fmt::Result {
+fn write_times<T: fmt::Display + Drop>(sheet: &mut String, times: u32, word: T) -> fmt::Result {
     for _ in 0..times {
         write!(sheet, " {word}")?;
     }
