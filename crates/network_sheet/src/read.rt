@@ -1,6 +1,5 @@
 // Reading a network sheet: the sections `signals`, `links`, `turns` and `limits`.
 ghost use Rattle.std.specs.Prelude.{◌≤◌, length};
-ghost use Rattle.limit_sheet.specs.Limits.{limits_section};
 ghost use Rattle.records.specs.Sections.{ToldAs, ListedAs, Exactly};
 ghost use Rattle.model_sheet.specs.Content.{told_meant, Means};
 ghost use Rattle.network.specs.Network.{network};
@@ -13,7 +12,6 @@ use limit_sheet::read_limits;
 use model_sheet::{ModelRead, ModelSheet};
 use network::links::{Link, Turn};
 use network::network::Network;
-use plan::limits::Limit;
 use records::fault::ModelFault;
 use records::{Listed, read_section};
 use std::alloc::Global;
@@ -60,19 +58,6 @@ fn turns_section(
     read_section(heap, &kind, bytes, at, b"turns", 0, 256)
 }
 
-// At most 32 limits on the queues of these links.
-fn limits_section(
-    heap: Global,
-    bytes: &[u8],
-    at: usize,
-    links: &[Link],
-) -> Result<Listed<Limit>, ModelFault>
-    requires { length links.now ≤ 64 }
-    ensures { ListedAs result (limits_section bytes.now (length links.now) at) }
-{
-    read_limits(heap, bytes, at, links.len() as u32)
-}
-
 // The four sections, one after the other.
 fn read_sections(heap: Global, bytes: &[u8]) -> Result<ModelRead<Network>, ModelFault>
     ensures { ToldAs content result (sections bytes.now) }
@@ -80,7 +65,8 @@ fn read_sections(heap: Global, bytes: &[u8]) -> Result<ModelRead<Network>, Model
     let signals = signals_section(heap, bytes, 0)?;
     let links = links_section(heap, bytes, signals.end, signals.items.as_slice())?;
     let turns = turns_section(heap, bytes, links.end, links.items.as_slice())?;
-    let limits = limits_section(heap, bytes, turns.end, links.items.as_slice())?;
+    let places = links.items.len() as u32;
+    let limits = read_limits(heap, bytes, turns.end, places)?;
     let model = Network {
         phases: signals.items,
         links: links.items,

@@ -12,10 +12,10 @@ turns_section-requires c =
     let l = links_ok c.args.bytes.now c.in_ok-signals.ensures c.as_slice.ensures.value c.in_ok-links.ensures in
     omega (arith, l.1, ap length c.as_slice-2.ensures.value)
 
-pub limits_section-requires : goal.limits_section-requires
-limits_section-requires c =
+pub overflow_cast-places : goal.overflow_cast-places
+overflow_cast-places c =
     let l = links_ok c.args.bytes.now c.in_ok-signals.ensures c.as_slice.ensures.value c.in_ok-links.ensures in
-    omega (arith, l.1, ap length c.as_slice-3.ensures.value)
+    omega (arith, l.1)
 
 pub invariant_of-model : goal.invariant_of-model
 invariant_of-model c =
