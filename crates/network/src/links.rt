@@ -1,5 +1,5 @@
 // Links of road, and the turns between them.
-ghost use Rattle.std.specs.Prelude.{◌≡◌};
+ghost use Rattle.std.specs.Prelude.{◌≡◌, ◌/◌, ◌%◌, ◌^◌, ◌==◌};
 ghost use Rattle.network.specs.Network.{green_in, joins};
 
 // At the head of a link a junction shows it green in the phases of its mask: bit p - 1 for phase p.
@@ -26,14 +26,19 @@ pub struct Turn {
     pub supply: u32,
 }
 
+// Whether a bit of the mask, counted from 0, is 1.
+fn has_bit(mask: u8, bit: u32) -> bool
+    ensures { result ≡ (mask / 2 ^ bit % 2 == 1) }
+{
+    mask.checked_shr(bit).is_some_and(|bits| bits % 2 == 1)
+}
+
 impl Link {
     // Whether a phase of the link's junction, counted from 0, shows it green.
     pub fn is_green_in(&self, phase: u32) -> bool
         ensures { result ≡ green_in phase self.now }
     {
-        self.mask
-            .checked_shr(phase)
-            .is_some_and(|bits| bits % 2 == 1)
+        has_bit(self.mask, phase)
     }
 }
 

@@ -1,6 +1,0 @@
-use Rattle.std.proofs.Common.{rules, arith}
-use Rattle.network.proofs.Wishes.{bit_shown}
-use Rattle.network.proofs.links.Link.is_green_in.Goals as goal
-
-pub returns : goal.returns
-returns c = bit_shown c.args.self.now.mask c.args.phase c.is_some_and.result (omega arith) c.checked_shr.result c.checked_shr.ensures (search rules)
