@@ -4,7 +4,7 @@ use Rattle.model.specs.Model.{Meaning, Lawful}
 use Rattle.street.specs.declared.groups.Group.{Group}
 use Rattle.street.specs.Counted.{first_of, rest, capped_group}
 use Rattle.street.specs.Views.{StepsHeavily, StepsByGroups, to_come}
-use Rattle.street.proofs.Moving.{no_arrivals, loads_own}
+use Rattle.street.specs.Moving.{no_arrivals, loads_own}
 
 rest_map : (m : Meaning) (gs : List Group) → rest (map (capped_group m) gs) ≡ map (capped_group m) (rest gs)
 rest_map m [] = refl

@@ -4,3 +4,4 @@ pub mod Counted
 pub mod Careful
 pub mod Fed
 pub mod Views
+pub mod Moving

@@ -3,6 +3,7 @@ ghost use Rattle.std.specs.Prelude.{◌≡◌};
 ghost use Rattle.street.specs.Street.{Showed, Bounded, lamps_after};
 ghost use Rattle.street.specs.Standing.{fresh_seen, answer_for};
 ghost use Rattle.street.specs.Fed.{fed_seen, FedStep};
+ghost use Rattle.street.specs.Moving.{bounded};
 
 use crate::feed::Feed;
 use crate::groups::Group;
@@ -20,7 +21,7 @@ pub struct FedStreet<M, F> {
 
 impl<M: Model, F: Feed> FedStreet<M, F> {
     // A dark street with these queues.
-    #[tactic(auto, using(crate::proofs::Moving::fresh_is))]
+    #[tactic(auto, using(crate::specs::Moving::fresh_is))]
     pub fn with_feed(model: M, queues: [u32; 64], feed: F) -> Self
         ensures model { M.Model.meaning result.model ≡ M.Model.meaning model }
         ensures seen { fed_seen M.Model.meaning result ≡ fresh_seen (M.Model.meaning model) queues }
@@ -106,6 +107,8 @@ impl<M: Model, F> QueueModel for FedStreet<M, F> {
 impl<M: Model, F: Feed> Street for FedStreet<M, F> {
     ghost seen = { fed_seen M.Model.meaning };
 
+    ghost bounded = { λ s. bounded (M.Model.meaning s.model) (M.Model.lawful s.model) s.standing };
+
     fn show(&mut self, row: [u8; 32]) -> Showing
         ensures moved { Showed (M.Model.meaning self.old.model) row (fed_seen M.Model.meaning self.old) result (fed_seen M.Model.meaning self.new) }
         ensures model { M.Model.meaning self.new.model ≡ M.Model.meaning self.old.model }
@@ -124,7 +127,7 @@ impl<M: Model, F: Feed> Street for FedStreet<M, F> {
         answer
     }
 
-    #[tactic(auto, using(crate::proofs::Moving::told_top))]
+    #[tactic(auto, using(crate::specs::Moving::told_top))]
     fn queue(&self, place: usize) -> u32 {
         number_at(&self.standing.queues, place).min(self.model.top(place))
     }
@@ -135,7 +138,7 @@ impl<M: Model, F: Feed> Street for FedStreet<M, F> {
         mode.copied().unwrap_or(0)
     }
 
-    #[tactic(auto, using(crate::proofs::Moving::told_load))]
+    #[tactic(auto, using(crate::specs::Moving::told_load))]
     fn arrival(&self, place: usize) -> u32 {
         number_at(&self.standing.arrivals, place).min(self.model.load(place))
     }

@@ -37,6 +37,9 @@ pub trait Street: Model {
     fn arrival(&self, place: usize) -> u32
         ensures is { result ≡ told (seen self.now).arrivals place }
         ensures within { Bounded (Self.Model.meaning self.now) (seen self.now) };
+
+    // A street keeps the bounds of its model, asked or not.
+    ghost bounded: { (s : Self) → Bounded (Self.Model.meaning s) (seen s) };
 }
 
 pub mod careful;

@@ -1,4 +1,4 @@
-use Rattle.street.proofs.Moving.{bounded}
+use Rattle.street.specs.Moving.{bounded}
 use Rattle.street.proofs.fed.FedStreetStreet.queue.Goals as goal
 
 pub returns-clause-within : goal.returns-clause-within

@@ -1,6 +1,6 @@
 use Rattle.std.proofs.Common.{rules, refl}
 use Rattle.street.specs.Standing.{seen_of}
-use Rattle.street.proofs.Moving.{after_is, moved_showed, bounded}
+use Rattle.street.specs.Moving.{after_is, moved_showed, bounded}
 use Rattle.street.proofs.fed.FedStreetStreet.show.Goals as goal
 
 pub returns : goal.returns
