@@ -5,6 +5,7 @@ use plan::limits::Limit;
 use plan::plan::Plan;
 
 // Where an area stands: its state, the current row of the plan on line, counted from 0, and the envelope.
+// The envelope is an array, since an area allocates nothing.
 #[derive(Clone, Copy)]
 struct Position {
     state: State,

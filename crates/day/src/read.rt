@@ -35,7 +35,8 @@ fn area_section(bytes: &[u8], at: usize) -> Result<Reading<u32>, SheetFault>
     number(bytes, named, 0, 999_999_999)
 }
 
-// A queue for each place: exactly the model's places.
+// A queue for each place: exactly the model's places. With the start of a plan it shares the reading of the table alone,
+// since its queues have no tops.
 fn queues_section<M: Model>(
     model: &M,
     bytes: &[u8],

@@ -43,6 +43,7 @@ impl<S: Street> Area<S> {
         ensures does { Called S.Model.meaning S.Street.seen self.old (give_back held.area) (given result) self.new }
         ensures back { HandedBack held result }
     {
+        // a match, since in `map_err` the closure would hold a duty that it cannot let go
         match self.on_duty(&held) {
             Err(fault) => Err(Unspent { duty: held, fault }),
             Ok(()) => {
