@@ -19,6 +19,7 @@ impl Record for SignalRecord {
     ghost reads = { λ _ bs. signal_at bs };
 
     fn read(&self, bytes: &[u8], at: usize, before: &[u8]) -> Result<Recorded<u8>, SheetFault> {
+        // the cast loses nothing, since the number is in its range: `try_from` would ask for a case that never comes
         let phases = number(bytes, at, 1, 8)?;
         Ok(Recorded {
             item: phases.value as u8,

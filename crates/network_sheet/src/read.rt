@@ -17,6 +17,8 @@ use records::{Listed, read_section};
 use std::alloc::Global;
 use words::word::short_enough;
 
+// Each section has a function, since each has a definition of its own that its contract names.
+
 // 1 to 32 junctions.
 fn signals_section(heap: Global, bytes: &[u8], at: usize) -> Result<Listed<u8>, ModelFault>
     ensures { ListedAs result (signals_section bytes.now at) }
