@@ -16,6 +16,48 @@ const SHOWN: Result<Showing, Refusal> = Ok(Showing::Shown);
 
 const DARK: Result<Showing, Refusal> = Ok(Showing::Dark);
 
+// A plan stands under shelf number 1.
+const FIRST_NOT_EMPTY: Refusal = Refusal {
+    number: 12,
+    a: 1,
+    b: 0,
+};
+
+// A plan is on line.
+const ON_LINE: Refusal = Refusal {
+    number: 17,
+    a: 0,
+    b: 0,
+};
+
+// No plan stands under that number.
+const NO_PLAN: Refusal = Refusal {
+    number: 18,
+    a: 0,
+    b: 0,
+};
+
+// Cover is lost.
+const NOT_COVERED: Refusal = Refusal {
+    number: 21,
+    a: 0,
+    b: 0,
+};
+
+// The envelope at place 1 is above the start.
+const FIRST_ABOVE: Refusal = Refusal {
+    number: 22,
+    a: 1,
+    b: 0,
+};
+
+// The envelope at place 3 is above the start.
+const THIRD_ABOVE: Refusal = Refusal {
+    number: 22,
+    a: 3,
+    b: 0,
+};
+
 // At row 0 limit 1 was broken.
 const OVER: State = State::Lost(Loss::LimitBroken(0, 1));
 
@@ -29,70 +71,27 @@ pub const DARK_FIRST: [Called; 20] = [
         (State::Covered, 0, &[60, 25, 20], &[60, 25, 20]),
     ),
     (
-        Call::Change(
-            1,
-            Err(Refusal {
-                number: 22,
-                a: 1,
-                b: 0,
-            }),
-        ),
+        Call::Change(1, Err(FIRST_ABOVE)),
         (State::Covered, 0, &[60, 25, 20], &[60, 25, 20]),
     ),
     (
-        Call::Take(
-            1,
-            Refusal {
-                number: 17,
-                a: 0,
-                b: 0,
-            },
-        ),
+        Call::Take(1, ON_LINE),
         (State::Covered, 0, &[60, 25, 20], &[60, 25, 20]),
     ),
     (
-        Call::Change(
-            5,
-            Err(Refusal {
-                number: 18,
-                a: 0,
-                b: 0,
-            }),
-        ),
+        Call::Change(5, Err(NO_PLAN)),
         (State::Covered, 0, &[60, 25, 20], &[60, 25, 20]),
     ),
     (
-        Call::Change(
-            0,
-            Err(Refusal {
-                number: 18,
-                a: 0,
-                b: 0,
-            }),
-        ),
+        Call::Change(0, Err(NO_PLAN)),
         (State::Covered, 0, &[60, 25, 20], &[60, 25, 20]),
     ),
     (
-        Call::Change(
-            9,
-            Err(Refusal {
-                number: 18,
-                a: 0,
-                b: 0,
-            }),
-        ),
+        Call::Change(9, Err(NO_PLAN)),
         (State::Covered, 0, &[60, 25, 20], &[60, 25, 20]),
     ),
     (
-        Call::Shelve(
-            1,
-            PLAN,
-            Err(Refusal {
-                number: 12,
-                a: 1,
-                b: 0,
-            }),
-        ),
+        Call::Shelve(1, PLAN, Err(FIRST_NOT_EMPTY)),
         (State::Covered, 0, &[60, 25, 20], &[60, 25, 20]),
     ),
     (
@@ -108,14 +107,7 @@ pub const DARK_FIRST: [Called; 20] = [
         (State::Covered, 1, &[20, 30, 30], &[20, 30, 30]),
     ),
     (
-        Call::Change(
-            2,
-            Err(Refusal {
-                number: 22,
-                a: 3,
-                b: 0,
-            }),
-        ),
+        Call::Change(2, Err(THIRD_ABOVE)),
         (State::Covered, 1, &[20, 30, 30], &[20, 30, 30]),
     ),
     (
@@ -147,14 +139,7 @@ pub const DARK_FIRST: [Called; 20] = [
         (State::Covered, 1, &[20, 20, 20], &[0, 4, 0]),
     ),
     (
-        Call::Change(
-            1,
-            Err(Refusal {
-                number: 22,
-                a: 3,
-                b: 0,
-            }),
-        ),
+        Call::Change(1, Err(THIRD_ABOVE)),
         (State::Covered, 1, &[20, 20, 20], &[0, 4, 0]),
     ),
     (
@@ -167,48 +152,19 @@ pub const DARK_FIRST: [Called; 20] = [
 pub const LIMIT_LOST: [Called; 9] = [
     (Call::Step(DARK), (OVER, 0, &[200, 100, 200], &[60, 25, 20])),
     (
-        Call::Change(
-            1,
-            Err(Refusal {
-                number: 21,
-                a: 0,
-                b: 0,
-            }),
-        ),
+        Call::Change(1, Err(NOT_COVERED)),
         (OVER, 0, &[200, 100, 200], &[60, 25, 20]),
     ),
     (
-        Call::Change(
-            5,
-            Err(Refusal {
-                number: 21,
-                a: 0,
-                b: 0,
-            }),
-        ),
+        Call::Change(5, Err(NOT_COVERED)),
         (OVER, 0, &[200, 100, 200], &[60, 25, 20]),
     ),
     (
-        Call::Take(
-            1,
-            Refusal {
-                number: 17,
-                a: 0,
-                b: 0,
-            },
-        ),
+        Call::Take(1, ON_LINE),
         (OVER, 0, &[200, 100, 200], &[60, 25, 20]),
     ),
     (
-        Call::Shelve(
-            1,
-            PLAN,
-            Err(Refusal {
-                number: 12,
-                a: 1,
-                b: 0,
-            }),
-        ),
+        Call::Shelve(1, PLAN, Err(FIRST_NOT_EMPTY)),
         (OVER, 0, &[200, 100, 200], &[60, 25, 20]),
     ),
     (
