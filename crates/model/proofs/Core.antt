@@ -27,15 +27,16 @@ lit_fits modes r = go (fits_row modes r) refl
     go true e = e
     go false e = zeros_fit modes
 
+-- the row that counts, by the modes of its core
+pub lamps_lit : (c : Core) (r : List ℕ) → lamps (model c) r ≡ lit c.modes r
+lamps_lit c r = ap (λ d. cond (fits_row c.modes r) r d) (dark_is (model c))
+
 module _ (c : Core) (ok : CoreLaws c) where
   few_tops : length c.tops ≤ 64
   few_tops = omega (arith, ok.whole_tops)
 
   few_loads : length c.loads ≤ 64
   few_loads = omega (arith, ok.whole_loads)
-
-  lamps_lit : (r : List ℕ) → lamps (model c) r ≡ lit c.modes r
-  lamps_lit r = ap (λ d. cond (fits_row c.modes r) r d) (dark_is (model c))
 
   placed_in : (a : Answer) → Placed c a → InRange (model c) a
   placed_in Clear h = tt
@@ -56,13 +57,13 @@ module _ (c : Core) (ok : CoreLaws c) where
         legal_dark = rw (dark_is (model c)) (zeros_fit c.modes);
         legal_end = fits_end c.modes;
         same_next = λ r x v.
-            let e = lamps_lit r in
+            let e = lamps_lit c r in
             let a = lit_lit c.modes r in
             let b = capped_capped c.tops few_tops x in
             let d = capped_capped c.loads few_loads v in
             cc;
         same_answer = λ r x v.
-            let e = lamps_lit r in
+            let e = lamps_lit c r in
             let a = lit_lit c.modes r in
             let b = capped_capped c.tops few_tops x in
             let d = capped_capped c.loads few_loads v in

@@ -4,9 +4,11 @@
 // Places and signals are numbered from 1, and a question out of range answers 0.
 #![tactic(auto)]
 
-ghost use Rattle.std.specs.Prelude.{◌≡◌};
+ghost use Rattle.std.specs.Prelude.{◌≡◌, ◌+◌, ◌<◌};
 ghost use Rattle.model.specs.State.{told};
-ghost use Rattle.model.specs.Model.{Meaning, Lawful, dark_row, stepped};
+ghost use Rattle.model.specs.Model.{Meaning, Lawful, dark_row, lamps, stepped};
+
+use std::array;
 
 // Why a place is held.
 #[derive(Clone, Copy, PartialEq, Eq, Debug)]
@@ -60,6 +62,37 @@ pub trait Model {
 
     fn step(&self, row: [u8; 32], state: [u32; 64], arrivals: [u32; 64]) -> Step
         ensures { result ≡ stepped (meaning self.now) row state arrivals };
+
+    // The greatest number that each place can hold.
+    fn tops(&self) -> [u32; 64]
+        ensures { result ≡ (meaning self.now).tops }
+    {
+        array::from_fn(
+            |k|
+                requires { k < 64 }
+                ensures { result ≡ told (meaning self.entry.now).tops (k + 1) }
+            { self.top(k + 1) },
+        )
+    }
+
+    // The most that can arrive at each place in one step.
+    fn loads(&self) -> [u32; 64]
+        ensures { result ≡ (meaning self.now).loads }
+    {
+        array::from_fn(
+            |k|
+                requires { k < 64 }
+                ensures { result ≡ told (meaning self.entry.now).loads (k + 1) }
+            { self.load(k + 1) },
+        )
+    }
+
+    // The row that counts: the dark row in place of an illegal one.
+    fn lamps(&self, row: [u8; 32]) -> [u8; 32]
+        ensures { result ≡ lamps (meaning self.now) row }
+    {
+        if self.legal(row) { row } else { self.dark() }
+    }
 
     ghost lawful: { (m : Self) → Lawful (meaning m) };
 }

@@ -1,9 +1,7 @@
 // Code on states and rows that models share.
-ghost use Rattle.std.specs.Prelude.{◌≡◌, ◌+◌, ◌<◌, min, nat_le, nat_lt, slice_index};
+ghost use Rattle.std.specs.Prelude.{◌≡◌, ◌<◌, min, nat_le, nat_lt, slice_index};
 ghost use Rattle.model.specs.State.{capped, fits_row, told, lowest_above};
-ghost use Rattle.model.specs.Model.{lamps, lit};
 
-use crate::Model;
 use std::array;
 
 // The number of a place, counted from 1; 0 out of range.
@@ -47,46 +45,4 @@ pub fn lowest_place_above(state: &[u32; 64], other: &[u32; 64]) -> Option<usize>
         { number > bound },
     );
     above.map(|k| k + 1)
-}
-
-// The most that can arrive at each place in one step.
-pub fn loads_of<M: Model>(model: &M) -> [u32; 64]
-    ensures { result ≡ (M.Model.meaning model.now).loads }
-{
-    array::from_fn(
-        |k|
-            requires { k < 64 }
-            ensures { result ≡ told (M.Model.meaning model.entry.now).loads (k + 1) }
-        { model.load(k + 1) },
-    )
-}
-
-// The greatest number that each place can hold.
-pub fn tops_of<M: Model>(model: &M) -> [u32; 64]
-    ensures { result ≡ (M.Model.meaning model.now).tops }
-{
-    array::from_fn(
-        |k|
-            requires { k < 64 }
-            ensures { result ≡ told (M.Model.meaning model.entry.now).tops (k + 1) }
-        { model.top(k + 1) },
-    )
-}
-
-// The row that counts: the dark row in place of an illegal one.
-pub fn lamps_of<M: Model>(model: &M, row: [u8; 32]) -> [u8; 32]
-    ensures { result ≡ lamps (M.Model.meaning model.now) row }
-{
-    if model.legal(row) { row } else { model.dark() }
-}
-
-// The row that counts among these modes: mode 0 at every signal in place of an illegal one.
-pub fn lamps_among(modes: &[u8], row: [u8; 32]) -> [u8; 32]
-    ensures { result ≡ lit modes.now row }
-{
-    if fits_modes(modes, &row) {
-        row
-    } else {
-        [0; 32]
-    }
 }

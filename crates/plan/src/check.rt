@@ -10,7 +10,7 @@ ghost use Rattle.plan.specs.Accepts.{Checked};
 use crate::fault::CheckFault;
 use crate::limits::{Limit, first_broken};
 use crate::plan::Plan;
-use model::states::{loads_of, lowest_place_above};
+use model::states::lowest_place_above;
 use model::{Answer, Cause, Model};
 
 // The state after row n, or why that row is turned down.
@@ -51,7 +51,7 @@ pub fn check<M: Model>(model: &M, limits: &[Limit], plan: &Plan) -> Result<usize
     ensures { Checked (M.Model.meaning model.now) limits.now plan.now.start (rows_of plan.now) result }
 {
     let rows = plan.rows();
-    let loads = loads_of(model);
+    let loads = model.loads();
     let mut state = plan.start;
     for (n, row) in rows.iter().enumerate() {
         state = pass_row(model, limits, n, *row, state, loads)?;

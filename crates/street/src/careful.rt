@@ -4,14 +4,13 @@ ghost use Rattle.street.specs.Careful.{both_clear, Careful, Untouched};
 
 use crate::queues::queues_of;
 use crate::{Showing, Street};
-use model::states::loads_of;
 use model::{Answer, Model};
 
 // Whether both the row and the dark row are clear under the greatest arrivals.
 fn both_clear<M: Model>(model: &M, row: [u8; 32], queues: [u32; 64]) -> bool
     ensures { result ≡ both_clear (M.Model.meaning model.now) row queues }
 {
-    let loads = loads_of(model);
+    let loads = model.loads();
     let clears = |row| model.step(row, queues, loads).answer == Answer::Clear;
     clears(row) && clears(model.dark())
 }

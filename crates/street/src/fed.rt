@@ -9,7 +9,7 @@ use crate::feed::Feed;
 use crate::groups::Group;
 use crate::standing::Standing;
 use crate::{Showing, Street};
-use model::states::{lamps_of, number_at};
+use model::states::number_at;
 use model::{Model, Model as QueueModel, Step};
 
 #[derive(Drop)]
@@ -115,7 +115,7 @@ impl<M: Model, F: Feed> Street for FedStreet<M, F> {
         ensures within { Bounded (M.Model.meaning self.new.model) (fed_seen M.Model.meaning self.new) }
         ensures step { FedStep M.Model.meaning F.Feed.brings row self.old result self.new }
     {
-        let Group { arrivals, dark } = self.feed.bring(&self.model, lamps_of(&self.model, row));
+        let Group { arrivals, dark } = self.feed.bring(&self.model, self.model.lamps(row));
         let answer = self.answer_to(dark, row);
         let lamps = self.lamps_under(answer, row);
         let queues = self.queues_after(lamps, arrivals);
@@ -133,7 +133,7 @@ impl<M: Model, F: Feed> Street for FedStreet<M, F> {
     }
 
     fn lamp(&self, signal: usize) -> u8 {
-        let lamps = lamps_of(&self.model, self.standing.lamps);
+        let lamps = self.model.lamps(self.standing.lamps);
         let mode = signal.checked_sub(1).and_then(|k| lamps.get(k));
         mode.copied().unwrap_or(0)
     }

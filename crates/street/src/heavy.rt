@@ -8,7 +8,6 @@ use crate::fed::FedStreet;
 use crate::feed::Feed;
 use crate::groups::Group;
 use model::Model;
-use model::states::loads_of;
 
 // The greatest arrivals in every step, of which none is marked dark.
 #[derive(Clone, Copy)]
@@ -19,7 +18,7 @@ impl Feed for Loads {
 
     fn bring<M: Model>(&mut self, model: &M, _row: [u8; 32]) -> Group {
         Group {
-            arrivals: loads_of(model),
+            arrivals: model.loads(),
             dark: false,
         }
     }

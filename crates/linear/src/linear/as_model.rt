@@ -7,9 +7,8 @@ ghost use Rattle.linear.specs.Laws;
 ghost use Rattle.linear.specs.Ranges.{sound};
 
 use super::Linear;
-use model::states::{capped_by, fits_modes, lamps_among, lowest_place_above};
+use model::states::{capped_by, fits_modes, lowest_place_above};
 use model::{Answer, Cause, Model as QueueModel, Step};
-use std::array;
 
 // One signal has all the modes.
 const SIGNALS: usize = 1;
@@ -56,12 +55,10 @@ impl QueueModel for Linear {
         ensures is { result ≡ stepped (linear (lines self.now)) row state arrivals }
         ensures clear_where_fits { ClearWhereFits (lines self.now) row state arrivals result.answer }
     {
-        // `tops_of` and `loads_of` ask a whole model, of which a step is a part.
-        let tops = array::from_fn(|k| self.top(k + 1));
-        let loads = array::from_fn(|k| self.load(k + 1));
+        let tops = self.tops();
         let values = capped_by(&tops, &state);
-        let coming = capped_by(&loads, &arrivals);
-        let lamps = lamps_among(&[self.modes], row);
+        let coming = capped_by(&self.loads(), &arrivals);
+        let lamps = self.lamps(row);
         let amounts = self.amounts(lamps[0], &values, &coming);
         let next = capped_by(&tops, &amounts);
         let answer = verdict(lowest_place_above(&amounts, &tops));

@@ -8,9 +8,8 @@ ghost use Rattle.network.specs.Ranges.{sound};
 
 use super::Network;
 use super::held::Outcome;
-use model::states::{capped_by, fits_modes, lamps_among};
+use model::states::{capped_by, fits_modes};
 use model::{Model as QueueModel, Step};
-use std::array;
 
 impl QueueModel for Network {
     ghost meaning = { λ m. network (roads m) };
@@ -47,13 +46,10 @@ impl QueueModel for Network {
         ensures is { result ≡ stepped (network (roads self.now)) row state arrivals }
         ensures clear_where_flows { ClearWhereFlows (roads self.now) row state arrivals result.answer }
     {
-        // `tops_of` and `loads_of` ask a whole model, of which a step is a part.
-        let tops = array::from_fn(|k| self.top(k + 1));
-        let loads = array::from_fn(|k| self.load(k + 1));
-        let lamps = lamps_among(&self.phases, row);
+        let tops = self.tops();
         let queues = capped_by(&tops, &state);
-        let coming = capped_by(&loads, &arrivals);
-        let wishes = self.wishes(&lamps, &queues);
+        let coming = capped_by(&self.loads(), &arrivals);
+        let wishes = self.wishes(&self.lamps(row), &queues);
         let out = self.releases(&wishes, &queues);
         let amounts = self.amounts(&out, &queues, &coming);
         let next = capped_by(&tops, &amounts);

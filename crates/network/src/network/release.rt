@@ -5,7 +5,8 @@ ghost use Rattle.network.specs.Code.{roads};
 ghost use Rattle.network.specs.Network.{let_out, LetsOut};
 
 use super::Network;
-use model::states::{capped_by, lamps_among, number_at, tops_of};
+use model::Model as QueueModel;
+use model::states::{capped_by, number_at};
 
 impl Network {
     // The release of the link, counted from 1; 0 out of range.
@@ -13,8 +14,8 @@ impl Network {
         ensures value { result ≡ told (let_out (roads self.now) row state) link }
         ensures greatest { LetsOut (roads self.now) row state link result }
     {
-        let queues = capped_by(&tops_of(self), &state);
-        let wishes = self.wishes(&lamps_among(&self.phases, row), &queues);
+        let queues = capped_by(&self.tops(), &state);
+        let wishes = self.wishes(&self.lamps(row), &queues);
         number_at(&self.releases(&wishes, &queues), link)
     }
 }

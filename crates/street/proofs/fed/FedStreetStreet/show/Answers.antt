@@ -15,5 +15,5 @@ returns g c =
       moved = moved_showed m law group.dark c.args.row group.arrivals (seen_of m s.standing) _ answer.result answer.ensures is;
       model = refl {a = m};
       within = search (rules, bounded m law);
-      step = record { group = group; brought = rw c.lamps_of.ensures at c.bring-dark.ensures; answers = answer.ensures; moves = is; model = refl {a = m} };
+      step = record { group = group; brought = rw c.lamps.ensures at c.bring-dark.ensures; answers = answer.ensures; moves = is; model = refl {a = m} };
     }
