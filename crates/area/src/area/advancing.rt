@@ -10,7 +10,6 @@ use crate::area::{Area, Book, Duty, Position};
 use lives::fault::AreaFault;
 use lives::state::{Loss, State};
 use model::Answer;
-use model::states::{loads_of, tops_of};
 use plan::limits::first_broken;
 use street::{Showing, Street};
 
@@ -60,7 +59,7 @@ impl<S: Street> Area<S> {
     {
         let envelope = match state {
             State::Covered => next,
-            State::OffLine | State::Lost(_) => tops_of(&self.street),
+            State::OffLine | State::Lost(_) => self.street.tops(),
         };
         Position {
             state,
@@ -73,7 +72,7 @@ impl<S: Street> Area<S> {
     fn from_covered(&self, lamps: [u8; 32], row: usize) -> Position
         ensures { result ≡ covered_after (S.Model.meaning self.now.street) (limits_of self.now) lamps self.now.book.position row }
     {
-        let loads = loads_of(&self.street);
+        let loads = self.street.loads();
         let step = self.street.step(lamps, self.book.position.envelope, loads);
         let state = self.book.judged(step.answer, &step.next);
         self.standing(state, row, step.next)

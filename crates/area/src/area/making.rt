@@ -6,7 +6,6 @@ ghost use Rattle.area.specs.Steps.{off_line};
 use crate::area::{Area, Book, Position};
 use lives::state::State;
 use model::Model;
-use model::states::tops_of;
 use plan::limits::Limit;
 use street::Street;
 
@@ -15,7 +14,7 @@ impl Position {
     pub(crate) fn off_line<M: Model>(model: &M) -> Position
         ensures { result ≡ off_line (M.Model.meaning model.now) }
     {
-        let envelope = tops_of(model);
+        let envelope = model.tops();
         Position {
             state: State::OffLine,
             row: 0,
