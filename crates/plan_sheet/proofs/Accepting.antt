@@ -2,13 +2,13 @@
 use Rattle.std.proofs.Common.{◌≡◌, ℕ, ◌≤◌, false, List, map, length, replicate, is_ok, Ok, Err, Decides, Result, sym, refl, ap, ◌∙◌, subst, arith, length-take}
 use Rattle.std.proofs.lemmas.List.{length-replicate}
 use Rattle.refusal.specs.declared.Refusal.{Refusal}
-use Rattle.refusal.specs.Questions.{told_by}
+use Rattle.refusal.specs.Questions.{Told, told_by, then}
 use Rattle.refusal.proofs.Turning.{ok_same, then_ok, then_err, then_parts}
 use Rattle.model.specs.Model.{Meaning, Lawful}
 use Rattle.plan.specs.declared.limits.Limit.{Limit}
 use Rattle.plan.specs.Check.{checked, Timing}
 use Rattle.plan.specs.Runs.{EveryRunHolds}
-use Rattle.plan.proofs.Accepts.{checked_passed, checked_passes}
+use Rattle.plan.proofs.Accepts.{checked_count, checked_passed, checked_passes}
 use Rattle.plan.proofs.Runs.{decides_runs, passes_hold, holds_pass}
 use Rattle.words.specs.Tables.{tabled}
 use Rattle.words.proofs.Written.{length_written}
@@ -60,6 +60,19 @@ module _ (m : Meaning) (ls : List Limit) (bs : List ℕ) where
   pub timing_read : (p : PlanSaid) (k : ℕ) → plan_sheet m bs ≡ Ok p → checked m ls p.start (rows_said p) ≡ Ok k → accepted_timing m ls bs ≡ Ok (timing_said p)
   unfolding reads
   timing_read p k e f = rw e (then_ok _ f)
+
+  counted : (start : List ℕ) (rs : List (List ℕ)) (t : Timing) (c : Told ℕ) → checked m ls start rs ≡ c → t.rows ≡ rs → c ≡ then (then c (λ _. Ok t)) (λ u. Ok (length u.rows))
+  counted start rs t (Ok k) e same = ap Ok (sym (ap length same ∙ checked_count m ls start rs k e))
+  counted start rs t (Err d) e same = refl
+
+  counts : (s : Told PlanSaid) → then s (λ p. checked m ls p.start (rows_said p)) ≡ then (then (then s (λ p. Ok (timing_said p))) (λ t. then (checked m ls t.start t.rows) (λ _. Ok t))) (λ u. Ok (length u.rows))
+  counts (Ok p) = counted p.start (rows_said p) (timing_said p) (checked m ls p.start (rows_said p)) refl refl
+  counts (Err d) = refl
+
+  -- the answer of the check is the count of the rows of the plan that is accepted
+  pub timing_counts : (r : Told Timing) → r ≡ accepted_timing m ls bs → checked_sheet m ls bs ≡ then r (λ t. Ok (length t.rows))
+  unfolding reads
+  timing_counts r e = counts (plan_sheet m bs) ∙ sym (ap (λ s. then s (λ t. Ok (length t.rows))) e)
 
   -- a sheet that says no plan
   pub says_none : (d : Refusal) → Exact m bs (Err d) → Accepts m ls bs false

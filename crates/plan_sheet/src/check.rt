@@ -25,8 +25,7 @@ pub fn check_sheet<M: Model>(model: &M, limits: &[Limit], bytes: &[u8]) -> Resul
     ensures is { told_by plan_refusal result ≡ checked_sheet (M.Model.meaning model.now) limits.now bytes.now }
     ensures accepts { Accepts (M.Model.meaning model.now) limits.now bytes.now (is_ok result) }
 {
-    let read = read_plan(model, bytes)?;
-    check_plan(model, limits, &read.item)
+    Ok(accepted_plan(model, limits, bytes)?.length())
 }
 
 // The plan that a sheet says, if the check accepts it.
