@@ -1,8 +1,7 @@
 -- What is printed of a whole day.
-use Rattle.std.specs.Prelude.{◌≡◌, ℕ, Bool, true, false, List, [], ◌∷◌, ◌++◌, drop, is_ok, is_err, IfOk, Some, None, Ok, Err, codes, Option, Result}
+use Rattle.std.specs.Prelude.{◌≡◌, ℕ, Bool, true, false, List, [], ◌∷◌, ◌++◌, drop, is_err, IfOk, Some, None, Ok, Err, Option, Result}
 use Rattle.refusal.specs.Questions.{Told}
 use Rattle.words.specs.Faults.{sheet_refusal}
-use Rattle.words.specs.Numbers.{section_at}
 use Rattle.records.specs.declared.fault.ModelFault.{ModelFault}
 use Rattle.records.specs.declared.fault.ModelFault.TheVariants.{Sheet, Memory}
 use Rattle.model.specs.Model.{Meaning}
@@ -17,7 +16,7 @@ use Rattle.area.specs.declared.area.Area.{Area as AreaCode}
 use Rattle.area.specs.Code.{area_of, limits_of}
 use Rattle.model_sheet.specs.Content.{Content, told_meant}
 use Rattle.network_sheet.specs.Network.{network_sheet}
-use Rattle.linear_sheet.specs.Linear.{linear_sheet}
+use Rattle.linear_sheet.specs.Linear.{begins_linear, linear_sheet}
 use Rattle.day.specs.declared.call.DayCall.{DayCall}
 use Rattle.day.specs.declared.run.Done.{Done}
 use Rattle.day.specs.declared.run.Done.TheVariants.{NoDuty}
@@ -79,10 +78,6 @@ NetworkDay bs text = DayOn (told_meant network (network_sheet bs)) bs text
 
 abbrev pub LinearDay : List ℕ → List ℕ → Type 0
 LinearDay bs text = DayOn (told_meant linear (linear_sheet bs)) bs text
-
--- the first word tells the model
-abbrev pub begins_linear : List ℕ → Bool
-begins_linear bs = is_ok (section_at bs 0 (codes "modes"))
 
 abbrev pub ByModel : Bool → List ℕ → List ℕ → Type 0
 ByModel true bs text = LinearDay bs text

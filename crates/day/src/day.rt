@@ -9,7 +9,7 @@ use crate::lines::write_line;
 use crate::read::read_day;
 use crate::run::{Ran, close, run_call};
 use area::area::{Area, Duty};
-use linear_sheet::read::LinearSheet;
+use linear_sheet::read::{LinearSheet, is_linear};
 use model::Model;
 use model_sheet::{ModelRead, ModelSheet};
 use network_sheet::read::NetworkSheet;
@@ -19,7 +19,6 @@ use refusal::Refusal;
 use std::alloc::{AllocError, Global};
 use street::Street;
 use street::counted::CountedStreet;
-use words::number::section;
 use words::word::rest_of;
 
 // The duty in hand, and the error of the first line that there was no memory for.
@@ -121,7 +120,7 @@ fn day_of<S: ModelSheet>(heap: Global, input: &[u8]) -> Result<String, AllocErro
 pub fn run_day(heap: Global, input: &[u8]) -> Result<String, AllocError>
     ensures { IfOk result (λ s. Printed input.now (string_bytes s)) }
 {
-    if section(input, 0, b"modes").is_ok() {
+    if is_linear(input) {
         day_of::<LinearSheet>(heap, input)
     } else {
         day_of::<NetworkSheet>(heap, input)

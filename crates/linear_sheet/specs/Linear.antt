@@ -1,5 +1,5 @@
 -- A whole linear model sheet: the sections `modes`, `places`, `entries` and `limits`, one after the other.
-use Rattle.std.specs.Prelude.{ℕ, List, length, Ok, codes}
+use Rattle.std.specs.Prelude.{ℕ, Bool, List, length, is_ok, Ok, codes}
 use Rattle.refusal.specs.Questions.{Told, then}
 use Rattle.words.specs.declared.reading.Reading.{Reading}
 use Rattle.words.specs.Words.{short_sheet}
@@ -13,6 +13,10 @@ use Rattle.limit_sheet.specs.Limits.{limits_section}
 use Rattle.model_sheet.specs.declared.ModelRead.{ModelRead}
 use Rattle.model_sheet.specs.Content.{Content, content_by}
 use Rattle.linear_sheet.specs.Places.{place_at, entry_at, entry_count}
+
+-- the first word is the one that begins a linear sheet
+abbrev pub begins_linear : List ℕ → Bool
+begins_linear bs = is_ok (section_at bs 0 (codes "modes"))
 
 -- 1 to 8 modes, and no records
 abbrev pub modes_section : List ℕ → ℕ → Told (Reading ℕ)

@@ -4,7 +4,7 @@ ghost use Rattle.words.specs.Faults.{told};
 ghost use Rattle.records.specs.Sections.{ToldAs, ListedAs, Exactly};
 ghost use Rattle.linear.specs.Lines.{linear};
 ghost use Rattle.model_sheet.specs.Content.{told_meant, Means};
-ghost use Rattle.linear_sheet.specs.Linear.{modes_section, places_section, entries_section, sections, linear_sheet, content};
+ghost use Rattle.linear_sheet.specs.Linear.{begins_linear, modes_section, places_section, entries_section, sections, linear_sheet, content};
 ghost use Rattle.linear_sheet.specs.Says.{Says};
 
 use crate::place::{EntryRecord, PlaceRecord};
@@ -19,6 +19,13 @@ use words::fault::SheetFault;
 use words::number::{number, section};
 use words::reading::Reading;
 use words::word::short_enough;
+
+// Is the first word the one that begins a linear sheet?
+pub fn is_linear(bytes: &[u8]) -> bool
+    ensures { result ≡ begins_linear bytes.now }
+{
+    section(bytes, 0, b"modes").is_ok()
+}
 
 // 1 to 8 modes: a section with no records.
 fn modes_section(bytes: &[u8], at: usize) -> Result<Reading<u32>, SheetFault>

@@ -1,10 +1,10 @@
 -- Laws of states: what stands at each place of a state that is made whole or capped, and a test at every number.
-use Rattle.std.proofs.Common.{◌≡◌, ℕ, zero, suc, ◌+◌, ◌-◌, ◌<◌, ◌≤◌, min, Bool, true, false, ltb, leb, List, length, get_or, set, replicate, Some, None, Option, sym, refl, ap, ◌∙◌, ⊎_elim, zero-add, add-one, arith}
+use Rattle.std.proofs.Common.{◌≡◌, ℕ, zero, suc, ◌+◌, ◌-◌, ◌<◌, ◌≤◌, min, Bool, true, false, ltb, leb, List, length, get_or, replicate, Some, None, Option, sym, refl, ap, ◌∙◌, ⊎_elim, zero-add, add-one, arith}
 use mathlib.Core.Path.{fun_ext}
-use Rattle.std.proofs.lemmas.List.{get_or_past, get_or-replicate, length-replicate, length-set, get_or-set_same, get_or-set_other}
+use Rattle.std.proofs.lemmas.List.{get_or_past, get_or-replicate, length-replicate}
 use Rattle.std.proofs.lemmas.List.FromFn.{length-map-range_with_len, get_or-map-range_with_len, fill_by_all}
 use Rattle.std.proofs.lemmas.Bool.{cases_Bool, cond-true, cond-false, le-ltb, ltb-false, cases_lt, both_ways, and_parts, and_from, le-leb, leb-true}
-use Rattle.model.specs.State.{Below, whole, capped, every, told, Filled, fits_row, above_from, lowest_above}
+use Rattle.model.specs.State.{Below, whole, capped, every, told, fits_row, above_from, lowest_above}
 
 pub length_whole : (f : ℕ → ℕ) → length (whole f) ≡ 64
 unfolding whole
@@ -83,31 +83,6 @@ every_not n f k h e = go (every n f) refl
     go false s = refl
     go true s = absurd (both_ways (f k) e (every_at n f s k h))
 
-pub filled_none : (f : ℕ → ℕ) → Filled f 0 (replicate 64 0)
-filled_none f =
-    record {
-      size = length-replicate {A = ℕ} 64 0;
-      done = λ k h. absurd (omega arith);
-      rest = λ k h. slice_index_zeros 64 k;
-    }
-
-pub filled_more : (f : ℕ → ℕ) (i : ℕ) (xs : List ℕ) (y : ℕ) → i < 64 → y ≡ f i → Filled f i xs → Filled f (i + 1) (set xs i y)
-filled_more f i xs y h e t =
-    record {
-      size = length-set xs i y ∙ t.size;
-      done = λ k l.
-          ⊎_elim
-          (λ s. get_or-set_other xs i k y 0 (omega arith) ∙ t.done k s)
-          (λ s. let same : k ≡ i = omega arith in rw same (get_or-set_same xs i y 0 (omega (arith, t.size)) ∙ e))
-          (cases_lt k i);
-      rest = λ k l. get_or-set_other xs i k y 0 (omega arith) ∙ t.rest k (omega arith);
-    }
-
--- a function that is 0 from n on
-pub filled_all : (f : ℕ → ℕ) (n : ℕ) (xs : List ℕ) → Filled f n xs → ((k : ℕ) → n ≤ k → f k ≡ 0) → xs ≡ whole f
-filled_all f n xs t z =
-    whole_is f xs t.size (λ k h. ⊎_elim (λ l. t.done k l) (λ l. t.rest k l ∙ sym (z k l)) (cases_lt k n))
-
 pub told_at : (xs : List ℕ) (p : ℕ) → 0 < p → told xs p ≡ get_or xs (p - 1) 0
 told_at xs zero h = absurd (omega arith)
 told_at xs (suc k) h = let e : k ≡ suc k - 1 = omega arith in ap (λ j. get_or xs j 0) e
@@ -122,16 +97,6 @@ told_none xs n (suc k) h z = z k (omega (arith, h (omega arith)))
 
 pub told_outside : (xs : List ℕ) (p : ℕ) → (1 ≤ p → length xs < p) → told xs p ≡ 0
 told_outside xs p h = told_none xs (length xs) p h (λ k l. get_or_past xs k 0 l)
-
-pub filled_whole : (f : ℕ → ℕ) (n : ℕ) (xs : List ℕ) → 64 ≤ n → Filled f n xs → xs ≡ whole f
-filled_whole f n xs h t = whole_is f xs t.size (λ k l. t.done k (omega arith))
-
--- a state that is filled with what is told of xs, place by place
-pub told_more : (xs : List ℕ) (i : ℕ) (ys : List ℕ) (y : ℕ) → i < 64 → y ≡ told xs (i + 1) → Filled (λ j. get_or xs j 0) i ys → Filled (λ j. get_or xs j 0) (i + 1) (set ys i y)
-told_more xs i ys y h e t = filled_more (λ j. get_or xs j 0) i ys y h (e ∙ told_next xs i) t
-
-pub told_all : (xs : List ℕ) (n : ℕ) (ys : List ℕ) → length xs ≡ 64 → 64 ≤ n → Filled (λ j. get_or xs j 0) n ys → ys ≡ xs
-told_all xs n ys w h t = filled_whole (λ j. get_or xs j 0) n ys h t ∙ sym (whole_own xs w)
 
 pub zeros_fit : (modes : List ℕ) → fits_row modes (replicate 32 0) ≡ true
 zeros_fit modes = every_from 32 _ (λ k h. le-leb _ _ (omega (arith, slice_index_zeros 32 k)))

@@ -1,5 +1,5 @@
 -- States and rows: lists of numbers, 0 past their end.
-use Rattle.std.specs.Prelude.{◌≡◌, ℕ, zero, suc, ◌+◌, ◌<◌, ◌≤◌, min, Bool, true, cond, ◌&&◌, List, map, length, Some, None, Option, nat_le, nat_lt, slice_index}
+use Rattle.std.specs.Prelude.{◌≡◌, ℕ, zero, suc, ◌+◌, ◌≤◌, min, Bool, true, cond, ◌&&◌, List, map, length, Some, None, Option, nat_le, nat_lt, slice_index}
 use Rattle.std.specs.List.{range_with_len}
 
 -- at or below another at every place
@@ -41,9 +41,3 @@ above_from (suc n) k x y = cond (nat_lt (slice_index y k) (slice_index x k)) (So
 -- the lowest place, counted from 1, where x is above y
 abbrev pub lowest_above : List ℕ → List ℕ → Option ℕ
 lowest_above x y = above_from 64 0 x y
-
--- xs has the number f k at each place below i, and 0 at the others
-pub record Filled (f : ℕ → ℕ) (i : ℕ) (xs : List ℕ) : Type 0 where
-  pub size : length xs ≡ 64
-  pub done : (k : ℕ) → k < i → slice_index xs k ≡ f k
-  pub rest : (k : ℕ) → i ≤ k → slice_index xs k ≡ 0

@@ -60,6 +60,8 @@ pub trait Model {
     fn dark(&self) -> [u8; 32]
         ensures { result ≡ dark_row (meaning self.now) };
 
+    // The row, the state and the arrivals come apart, since whoever asks has each from elsewhere: a row from its plan, a state from
+    // the step before, arrivals from the street or from the loads.
     fn step(&self, row: [u8; 32], state: [u32; 64], arrivals: [u32; 64]) -> Step
         ensures { result ≡ stepped (meaning self.now) row state arrivals };
 

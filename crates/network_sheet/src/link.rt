@@ -42,7 +42,8 @@ fn only_phases(mask: u8, phases: u8) -> bool
     mask.checked_shr(u32::from(phases)).unwrap_or(0) == 0
 }
 
-// A link between so many signals with these phases.
+// A link between so many signals with these phases: the count is the greatest number that a sheet may name,
+// and goes into a number of a sheet, as the length of a slice need not.
 #[derive(Clone, Copy)]
 pub struct LinkRecord<'a> {
     pub phases: &'a [u8],

@@ -35,7 +35,8 @@ fn given(before: &[Turn], turn: &Turn) -> bool
     before.iter().any(|t| t.joins(turn.from, turn.to))
 }
 
-// A turn between these links, of which there are so many.
+// A turn between these links, of which there are so many: the count is the greatest number that a sheet may name,
+// and goes into a number of a sheet, as the length of a slice need not.
 #[derive(Clone, Copy)]
 pub struct TurnRecord<'a> {
     pub links: &'a [Link],

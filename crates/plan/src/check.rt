@@ -47,6 +47,7 @@ fn pass_end(count: usize, state: &[u32; 64], start: &[u32; 64]) -> Result<usize,
 }
 
 // The count of the plan's rows, or the first no along its heaviest run.
+// The model and the limits come apart, since an area holds its limits beside its street and would make a pair of them for each check.
 pub fn check<M: Model>(model: &M, limits: &[Limit], plan: &Plan) -> Result<usize, CheckFault>
     ensures { Checked (M.Model.meaning model.now) limits.now plan.now.start (rows_of plan.now) result }
 {

@@ -14,7 +14,8 @@ use Rattle.model.specs.Model.{Meaning, Lawful}
 use Rattle.plan_sheet.specs.Accepts.{checked_sheet}
 use Rattle.model_sheet.specs.Content.{Content}
 use Rattle.verdict.specs.declared.verdict.Verdict.{Verdict}
-use Rattle.verdict.specs.Judged.{verdict_of, verdict_after, Faulted, begins_linear, NetworkSaid, LinearSaid, Right}
+use Rattle.linear_sheet.specs.Linear.{begins_linear}
+use Rattle.verdict.specs.Judged.{verdict_of, verdict_after, Faulted, NetworkSaid, LinearSaid, Right}
 use Rattle.verdict.proofs.Rightly.{right_read, right_refused}
 
 module _ {V : Type 0} (view : V → Content Meaning) (Said : Content Meaning → Type 0) (bs : List ℕ) (t : Told (Content Meaning)) where

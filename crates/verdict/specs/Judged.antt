@@ -1,9 +1,8 @@
 -- The verdict on an input.
-use Rattle.std.specs.Prelude.{◌≡◌, ℕ, Bool, cond, ◌⊎◌, List, drop, is_ok, Ok, Err, codes, Result}
+use Rattle.std.specs.Prelude.{◌≡◌, ℕ, cond, ◌⊎◌, List, drop, Ok, Err, Result}
 use Rattle.std.specs.declared.alloc.AllocError.{AllocError}
 use Rattle.refusal.specs.Questions.{Told, then}
 use Rattle.words.specs.Faults.{sheet_refusal}
-use Rattle.words.specs.Numbers.{section_at}
 use Rattle.records.specs.declared.fault.ModelFault.{ModelFault}
 use Rattle.records.specs.declared.fault.ModelFault.TheVariants.{Sheet, Memory}
 use Rattle.model.specs.Model.{Meaning}
@@ -16,7 +15,7 @@ use Rattle.plan_sheet.specs.Accepts.{checked_sheet, rows_said}
 use Rattle.model_sheet.specs.Content.{Content, told_meant, Means}
 use Rattle.network_sheet.specs.Network.{network_sheet}
 use Rattle.network_sheet.specs.Says.{Says as SaysNetwork}
-use Rattle.linear_sheet.specs.Linear.{linear_sheet}
+use Rattle.linear_sheet.specs.Linear.{begins_linear, linear_sheet}
 use Rattle.linear_sheet.specs.Says.{Says as SaysLinear}
 use Rattle.verdict.specs.declared.verdict.Verdict.{Verdict}
 use Rattle.verdict.specs.declared.verdict.Verdict.TheVariants.{Shelved, Refused}
@@ -39,10 +38,6 @@ network_verdict bs = verdict_after (told_meant network (network_sheet bs)) bs
 
 abbrev pub linear_verdict : List ℕ → Verdict
 linear_verdict bs = verdict_after (told_meant linear (linear_sheet bs)) bs
-
--- the first word tells the model
-abbrev pub begins_linear : List ℕ → Bool
-begins_linear bs = is_ok (section_at bs 0 (codes "modes"))
 
 abbrev pub verdict_on : List ℕ → Verdict
 verdict_on bs = cond (begins_linear bs) (linear_verdict bs) (network_verdict bs)

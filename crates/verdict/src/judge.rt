@@ -1,10 +1,10 @@
 // From the bytes of an input to its verdict.
 ghost use Rattle.std.specs.Prelude.{◌≡◌, IfOk};
 ghost use Rattle.plan_sheet.specs.Accepts.{checked_sheet};
-ghost use Rattle.verdict.specs.Judged.{verdict_of, verdict_after, Faulted, begins_linear, verdict_on, ModelSaid, Right};
+ghost use Rattle.verdict.specs.Judged.{verdict_of, verdict_after, Faulted, verdict_on, ModelSaid, Right};
 
 use crate::verdict::Verdict;
-use linear_sheet::read::LinearSheet;
+use linear_sheet::read::{LinearSheet, is_linear};
 use model::Model;
 use model_sheet::ModelSheet;
 use network_sheet::read::NetworkSheet;
@@ -12,7 +12,6 @@ use plan::limits::Limit;
 use plan_sheet::check::check_sheet;
 use records::fault::ModelFault;
 use std::alloc::{AllocError, Global};
-use words::number::section;
 use words::word::rest_of;
 
 // The verdict on a plan sheet for the model.
@@ -48,13 +47,6 @@ fn judge_model<S: ModelSheet>(heap: Global, input: &[u8]) -> Result<Verdict, All
         )),
         Err(why) => judge_fault(why),
     }
-}
-
-// Is the first word the one that begins a linear sheet?
-fn is_linear(input: &[u8]) -> bool
-    ensures { result ≡ begins_linear input.now }
-{
-    section(input, 0, b"modes").is_ok()
 }
 
 // The verdict on an input: a model sheet, whose first word tells the model, and then, counted from its end, a plan sheet.

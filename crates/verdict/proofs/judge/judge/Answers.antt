@@ -1,7 +1,8 @@
 use Rattle.std.proofs.Common.{◌≡◌, true, false, sym, ◌∙◌, inl, inr, ⊎_elim}
 use Rattle.std.proofs.lemmas.Result.{IfOk-weaker}
 use Rattle.std.proofs.lemmas.Bool.{cond-true, cond-false, both_ways}
-use Rattle.verdict.specs.Judged.{begins_linear, linear_verdict, network_verdict, verdict_on, LinearSaid, NetworkSaid, ModelSaid, Right}
+use Rattle.linear_sheet.specs.Linear.{begins_linear}
+use Rattle.verdict.specs.Judged.{linear_verdict, network_verdict, verdict_on, LinearSaid, NetworkSaid, ModelSaid, Right}
 use Rattle.verdict.proofs.Rightly.{right_alike}
 use Rattle.verdict.proofs.Models.{network_begins, linear_begins}
 use Rattle.verdict.proofs.judge.judge.Goals as goal
