@@ -28,6 +28,7 @@ pub enum DayCall {
 fn shelf_at(bytes: &[u8], at: usize) -> Result<Recorded<usize>, SheetFault>
     ensures { told result ≡ shelf_at bytes.now at }
 {
+    // the cast loses nothing, since the number is in its range: `try_from` would name an error that never comes
     let number = number(bytes, at, 0, 255)?;
     Ok(Recorded {
         item: number.value as usize,

@@ -66,6 +66,7 @@ pub(crate) fn write_line<S: Street>(
     ensures { OnOk result (string_bytes out.new ≡ string_bytes out.old ++ line_text call done (area_of S.Street.seen area.now).book places) }
 {
     write_head(out, area, call, done)?;
+    // an area tells its envelope place by place, so there is no list to go over
     for k in 0..places {
         let number = area.envelope(k + 1);
         write!(out, " {number}")?;

@@ -44,6 +44,7 @@ fn queues_section<M: Model>(
 ) -> Result<Recorded<[u32; 64]>, SheetFault>
     ensures { told result ≡ queues_section (M.Model.meaning model.now) bytes.now at }
 {
+    // the cast loses nothing, since a model has at most 64 places: `try_from` would name an error that never comes
     let places = model.places() as u32;
     let named = section(bytes, at, b"queues")?;
     let count = number(bytes, named, places, places)?;

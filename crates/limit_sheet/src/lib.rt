@@ -42,6 +42,7 @@ impl Record for TermRecord {
     ghost reads = { λ s bs. term_at bs s.places };
 
     fn read(&self, bytes: &[u8], at: usize, before: &[Term]) -> Result<Recorded<Term>, SheetFault> {
+        // the cast loses nothing, since the number is in its range: `try_from` would name an error that never comes
         let place = number(bytes, at, 1, self.places)?;
         let weight = number(bytes, place.end, 1, 1000)?;
         let item = Term {
@@ -74,6 +75,7 @@ impl Record for LimitRecord {
     ) -> Result<Recorded<Limit>, SheetFault> {
         let bound = number(bytes, at, 0, 999_999_999)?;
         let count = number(bytes, bound.end, 1, 8)?;
+        // the cast loses nothing, since the number is in its range: `try_from` would name an error that never comes
         let used = count.value as usize;
         let no_term = Term {
             place: 0,

@@ -62,6 +62,7 @@ fn entries_section(
 fn read_sections(heap: Global, bytes: &[u8]) -> Result<ModelRead<Linear>, ModelFault>
     ensures { ToldAs content result (sections bytes.now) }
 {
+    // both casts lose nothing, since the number is in its range: `try_from` would name an error that never comes
     let modes = modes_section(bytes, 0)?;
     let places = places_section(heap, bytes, modes.end)?;
     let count = places.items.len() as u32;

@@ -64,6 +64,7 @@ impl<'a> Record for LinkRecord<'a> {
         let load = number(bytes, flow.end, 0, top.value)?;
         let mask = number(bytes, load.end, 0, 255)?;
         let letters = name.value;
+        // the casts lose nothing, since the numbers are in their range: `try_from` would name an error that never comes
         let link = Link {
             name: letters,
             tail: tail.value as usize,

@@ -36,6 +36,7 @@ fn links_section(
     requires { length phases.now ≤ 32 }
     ensures { ListedAs result (links_section bytes.now phases.now at) }
 {
+    // the cast loses nothing, since there are at most 32 junctions: `try_from` would name an error that never comes
     let kind = LinkRecord {
         phases,
         signals: phases.len() as u32,
@@ -53,6 +54,7 @@ fn turns_section(
     requires { length links.now ≤ 64 }
     ensures { ListedAs result (turns_section bytes.now links.now at) }
 {
+    // the cast loses nothing, since there are at most 64 links: `try_from` would name an error that never comes
     let kind = TurnRecord {
         links,
         count: links.len() as u32,
@@ -67,6 +69,7 @@ fn read_sections(heap: Global, bytes: &[u8]) -> Result<ModelRead<Network>, Model
     let signals = signals_section(heap, bytes, 0)?;
     let links = links_section(heap, bytes, signals.end, signals.items.as_slice())?;
     let turns = turns_section(heap, bytes, links.end, links.items.as_slice())?;
+    // the cast loses nothing, since there are at most 64 links: `try_from` would name an error that never comes
     let places = links.items.len() as u32;
     let limits = read_limits(heap, bytes, turns.end, places)?;
     let model = Network {

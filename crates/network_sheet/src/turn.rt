@@ -105,6 +105,7 @@ impl<'a> Record for TurnRecord<'a> {
         let to = number(bytes, from.end, 1, self.count)?;
         let share = number(bytes, to.end, 1, 1000)?;
         let supply = number(bytes, share.end, 1, 1000)?;
+        // both casts lose nothing, since the numbers are in their range: `try_from` would name an error that never comes
         let turn = Turn {
             from: from.value as usize,
             to: to.value as usize,

@@ -42,6 +42,7 @@ fn next_mode(
 {
     let n = number(bytes, row.end, 0, 8)?;
     let mut modes = row.value;
+    // the cast loses nothing, since the number is in its range: `try_from` would name an error that never comes
     modes[k] = n.value as u8;
     Ok(Reading {
         value: modes,
@@ -92,6 +93,7 @@ fn start_section<M: Model>(model: &M, bytes: &[u8]) -> Result<Recorded<[u32; 64]
     ensures { told result ≡ start_section (M.Model.meaning model.now) bytes.now }
 {
     let places = model.places();
+    // the cast loses nothing, since a model has at most 64 places: `try_from` would name an error that never comes
     let due = places as u32;
     let named = section(bytes, 0, b"start")?;
     let count = number(bytes, named, due, due)?;
@@ -108,6 +110,7 @@ fn rows_section<M: Model>(
 {
     let named = section(bytes, start.end, b"rows")?;
     let due = number(bytes, named, 1, 64)?;
+    // the cast loses nothing, since the number is in its range: `try_from` would name an error that never comes
     let count = due.value as usize;
     let rows = read_table(&RowRecord { model }, bytes, due.end, count, [0; 32])?;
     let queues = start.item;

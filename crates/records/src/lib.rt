@@ -51,6 +51,7 @@ fn read_records<R: Record>(
 {
     let mut items = Vec::new(heap);
     let mut end = at;
+    // a count and no list: what is gone over is still to be read
     for _ in 0..count {
         let read = kind.read(bytes, end, &items)?;
         items.push(read.item)?;
@@ -94,5 +95,6 @@ pub fn read_section<R: Record>(
 {
     let named = section(bytes, at, word)?;
     let count = number(bytes, named, low, high)?;
+    // the cast loses nothing, since the number is in its range: `try_from` would name an error that never comes
     read_records(heap, kind, bytes, count.end, count.value as usize)
 }

@@ -20,7 +20,7 @@ pub struct FedStreet<M, F> {
 }
 
 impl<M: Model, F: Feed> FedStreet<M, F> {
-    // A dark street with these queues.
+    // A dark street with these queues. Each kind of street is made by a function of its own, which repeats these promises for its callers.
     #[tactic(auto, using(crate::specs::Moving::fresh_is))]
     pub fn with_feed(model: M, queues: [u32; 64], feed: F) -> Self
         ensures model { M.Model.meaning result.model ≡ M.Model.meaning model }

@@ -39,6 +39,7 @@ fn check_places<S: Street>(
     queues: &[u32],
     arrivals: &[u32],
 ) {
+    // places in and out of range, so there is no list to go over
     for place in 0..70 {
         let queue = told(queues, place);
         assert_eq!(rt; street.queue(place), queue, "step {step}, queue at {place}");
@@ -52,6 +53,7 @@ fn check_places<S: Street>(
 }
 
 fn check_lamps<S: Street>(rt: &impl Abort, street: &S, step: usize, lamps: &[u8]) {
+    // signals in and out of range
     for signal in 0..40 {
         let mode = told(lamps, signal);
         assert_eq!(rt; street.lamp(signal), mode, "step {step}, lamp of {signal}");

@@ -41,7 +41,7 @@ fn try_red<S: Street>(rt: &impl Abort, street: &mut S, arrival: u32, queue: u32)
     assert_eq!(rt; street.queue(1), queue);
 }
 
-// Sixteen rounds of four groups, which bring 0, 1, 2 and 3.
+// Sixteen rounds of four groups, which bring 0, 1, 2 and 3. A round is told by its number: what is left and what came follow from it.
 fn try_rounds<M: Model>(rt: &impl Abort, street: &mut CountedStreet<M>) {
     for round in 0..16u32 {
         let before = round * 6;

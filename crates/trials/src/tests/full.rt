@@ -1,4 +1,5 @@
 // Sheets of full size: 32 signals, 64 links and 256 turns, or 8 modes and 16 places; 32 limits and 64 rows.
+// The loops count the links, turns and rows that are written, so there is no list to go over.
 use std::alloc::Global;
 use std::fmt;
 use std::fmt::Write;
