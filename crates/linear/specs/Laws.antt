@@ -11,7 +11,7 @@ use Rattle.model.proofs.Core.{lawful as core_lawful}
 use Rattle.linear.specs.Lines.{Lines, Sound, tops, amount, amounts, mode, moved, cut_off, judged, core, linear}
 use Rattle.linear.specs.Above.{some_above}
 use Rattle.linear.specs.Order.{order_clear, order_next}
-use Rattle.linear.specs.Sizes.{length_tops, length_loads, slice_index_tops, slice_index_amounts, inside_past, top_past, top_high, load_top}
+use Rattle.linear.specs.Sizes.{length_tops, length_loads, slice_index_tops, slice_index_amounts, inside_past, tops_past, top_high, load_top}
 
 module _ (n : Lines) (ok : Sound n) where
   told_place : (r x v : List ℕ) → Placed (core n) (judged n r x v)
@@ -46,7 +46,7 @@ module _ (n : Lines) (ok : Sound n) where
         whole_loads = length_loads n;
         low_tops = λ k h. omega (arith, slice_index_tops n ok k, (ok.placed k h).0);
         high_tops = top_high n ok;
-        end_tops = top_past n ok;
+        end_tops = tops_past n ok;
         loads_in_tops = load_top n ok;
         whole_moved = whole_moved;
         within = within;

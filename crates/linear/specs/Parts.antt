@@ -1,6 +1,17 @@
 -- What the inner functions of a step promise one another.
-use Rattle.std.specs.Prelude.{ℕ, ◌+◌, ◌-◌, ◌*◌, ◌≤◌, List, length, slice_index, slice_range}
-use Rattle.linear.specs.Lines.{Lines}
+use Rattle.std.specs.Prelude.{◌≡◌, ℕ, ◌+◌, ◌-◌, ◌*◌, ◌≤◌, List, length, slice_index, slice_range}
+use Rattle.model.specs.State.{told}
+use Rattle.linear.specs.declared.place.Place.{Place}
+use Rattle.linear.specs.Lines.{Lines, tops, loads}
+
+-- the top and the load that are told of place p, counted from 1, where the place l stands, and where none does
+pub record NumbersOf (n : Lines) (p : ℕ) (l : Place) : Type 0 where
+  pub top : l.top ≡ told (tops n) p
+  pub load : l.load ≡ told (loads n) p
+
+pub record NoneOf (n : Lines) (p : ℕ) : Type 0 where
+  pub top : told (tops n) p ≡ 0
+  pub load : told (loads n) p ≡ 0
 
 -- line i of mode m
 abbrev pub line_of : Lines → ℕ → ℕ → List ℕ

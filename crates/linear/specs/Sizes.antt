@@ -3,7 +3,8 @@ use Rattle.std.specs.Prelude.{◌≡◌, ℕ, ◌-◌, ◌<◌, ◌≤◌, List,
 use Rattle.std.specs.Slice.{IsItemAt}
 use denote.Ref.{Bor}
 use Rattle.linear.specs.declared.place.Place.{Place}
-use Rattle.std.proofs.Common.{refl, arith}
+use Rattle.std.proofs.Common.{ap, refl, arith}
+use Rattle.std.proofs.lemmas.List.{get_or_past}
 use Rattle.std.proofs.lemmas.Bool.{cond-true, cond-false, lt-ltb, le-ltb}
 use Rattle.model.specs.State.{Below, told}
 use Rattle.model.proofs.State.{length_whole, slice_index_whole_all}
@@ -23,6 +24,13 @@ pub length_amounts : (n : Lines) (m : ℕ) (x v : List ℕ) → length (amounts 
 unfolding amounts
 length_amounts n m x v = length_whole _
 
+module _ (n : Lines) (k : ℕ) (h : length n.places ≤ k) where
+  pub top_past : (place n k).top ≡ 0
+  top_past = ap (λ p. p.top) (get_or_past n.places k no_place h)
+
+  pub load_past : (place n k).load ≡ 0
+  load_past = ap (λ p. p.load) (get_or_past n.places k no_place h)
+
 pub inside_past : (n : Lines) (k : ℕ) → length n.places ≤ k → (f : ℕ → ℕ) → inside n f k ≡ 0
 inside_past n k h f = cond-false _ _ _ (le-ltb k (length n.places) h)
 
@@ -37,9 +45,13 @@ module _ (n : Lines) (ok : Sound n) where
   unfolding tops
   slice_index_tops k = number_at n.places no_place few (λ p. p.top) refl k
 
-  pub top_past : (k : ℕ) → length n.places ≤ k → slice_index (tops n) k ≡ 0
+  pub slice_index_loads : (k : ℕ) → slice_index (loads n) k ≡ (place n k).load
+  unfolding loads
+  slice_index_loads k = number_at n.places no_place few (λ p. p.load) refl k
+
+  pub tops_past : (k : ℕ) → length n.places ≤ k → slice_index (tops n) k ≡ 0
   unfolding tops
-  top_past k h = number_past n.places no_place few (λ p. p.top) refl k h
+  tops_past k h = number_past n.places no_place few (λ p. p.top) refl k h
 
   pub top_high : (k : ℕ) → slice_index (tops n) k ≤ 100000
   unfolding tops

@@ -11,7 +11,7 @@ use Rattle.model.proofs.State.{length_capped, capped_below}
 use Rattle.model.proofs.Core.{lawful as core_lawful}
 use Rattle.model.proofs.Answers.{lowest_held, held_cond}
 use Rattle.network.specs.Network.{Roads, Sound, tops, wishes, releases, amounts, verdict_at, moved, judged, core, network}
-use Rattle.network.specs.Sizes.{length_tops, length_loads, slice_index_tops, top_past, top_high, load_top}
+use Rattle.network.specs.Sizes.{length_tops, length_loads, slice_index_tops, tops_past, top_high, load_top}
 use Rattle.network.specs.Order.{order_clear, order_next}
 
 verdict_held : (w o a t : List ℕ) (k p : ℕ) (c : Cause) → verdict_at w o a t k ≡ Held p c → p ≡ k + 1
@@ -48,7 +48,7 @@ module _ (n : Roads) (ok : Sound n) where
         whole_loads = length_loads n;
         low_tops = λ k h. omega (arith, slice_index_tops n ok k, (ok.linked k h).1.0);
         high_tops = top_high n ok;
-        end_tops = top_past n ok;
+        end_tops = tops_past n ok;
         loads_in_tops = load_top n ok;
         whole_moved = whole_moved;
         within = within;

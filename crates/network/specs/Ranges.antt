@@ -11,13 +11,29 @@ use Rattle.network.specs.declared.links.Link.{Link}
 use Rattle.network.specs.declared.network.Network.{Network}
 use Rattle.network.specs.Code.{roads}
 use Rattle.network.specs.Sound.{no_link}
-use Rattle.network.specs.Network.{Roads, Sound, tops, loads, release, releases, let_out, LetsOut, Greatest}
-use Rattle.network.specs.Parts.{Ready}
+use Rattle.network.specs.Network.{Roads, Sound, link, tops, loads, inflow, amount, release, releases, let_out, LetsOut, Greatest}
+use Rattle.network.specs.Parts.{Ready, Small, NumbersOf, NoneOf}
+use Rattle.network.specs.Bounds.{inflow_small}
 use Rattle.network.specs.Easing.{release_greatest}
-use Rattle.network.specs.Sizes.{length_tops, length_loads, top_high, load_top, wish_le, slice_index_releases, release_past}
+use Rattle.network.specs.Sizes.{length_tops, length_loads, top_high, top_past, tops_past, load_top, load_past, wish_le, slice_index_tops, slice_index_loads, slice_index_releases, release_past, inflow_past}
 
 pub sound : (m : Network) → Sound (roads m)
 sound m = record { phased = m.phased; some = m.some; few = m.few; linked = m.linked; short = m.short; turned = m.turned }
+
+module _ (n : Roads) (ok : Sound n) (p : ℕ) (h : 1 ≤ p → length n.links < p) where
+  pub none_of : NoneOf n p
+  none_of =
+      record {
+        top = told_none (tops n) (length n.links) p h (tops_past n ok);
+        load = told_none (loads n) (length n.links) p h (λ k l. slice_index_loads n ok k ∙ load_past n k l);
+      }
+
+pub numbers_of : (n : Roads) → Sound n → (p : ℕ) (l : Link) → 1 ≤ p → l ≡ link n (p - 1) → NumbersOf n p l
+numbers_of n ok p l h e =
+    record {
+      top = ap (λ k. k.top) e ∙ (sym (slice_index_tops n ok (p - 1)) ∙ sym (told_at (tops n) p h));
+      load = ap (λ k. k.load) e ∙ (sym (slice_index_loads n ok (p - 1)) ∙ sym (told_at (loads n) p h));
+    }
 
 pub release_outside : (n : Roads) → Sound n → (p : ℕ) → (1 ≤ p → length n.links < p) → (r q : List ℕ) → told (releases n r q) p ≡ 0
 release_outside n ok p h r q =
@@ -33,19 +49,35 @@ module _ (n : Roads) (ok : Sound n) (p k : ℕ) (h : 1 ≤ p) (i : k ≡ p - 1) 
   unfolding loads
   load_told = number_told n.links no_link ok.few (λ x. x.load) refl p k h i l e
 
-pub ready : (n : Roads) → Sound n → (r x v o q w : List ℕ) → o ≡ releases n r q → q ≡ capped (tops n) x → w ≡ capped (loads n) v → Ready o q w
+pub ready : (n : Roads) → Sound n → (r x v o q w : List ℕ) → o ≡ releases n r q → q ≡ capped (tops n) x → w ≡ capped (loads n) v → Ready n o q w
 ready n ok r x v o q w a b c =
     record {
       leaving = λ k. omega (arith, ap (λ z. slice_index z k) a, slice_index_releases n ok r q k, (release_greatest n ok r q k).below, wish_le n r q k);
-      queued = λ k. omega (arith, queued k, top_high n ok k);
-      arrived = λ k. omega (arith, arrived k, load_top n ok k, top_high n ok k);
+      queued = rw b (capped_below (tops n) (omega (arith, length_tops n)) x);
+      arrived = rw c (capped_below (loads n) (omega (arith, length_loads n)) v);
     }
-  where
-    queued : (k : ℕ) → slice_index q k ≤ slice_index (tops n) k
-    queued = rw b (capped_below (tops n) (omega (arith, length_tops n)) x)
 
-    arrived : (k : ℕ) → slice_index w k ≤ slice_index (loads n) k
-    arrived = rw c (capped_below (loads n) (omega (arith, length_loads n)) v)
+module _ (n : Roads) (ok : Sound n) (o q v : List ℕ) (s : Ready n o q v) where
+  pub queue_small : (k : ℕ) → slice_index q k ≤ 100000
+  queue_small k = omega (arith, s.queued k, top_high n ok k)
+
+  pub out_small : (k : ℕ) → slice_index o k ≤ 100000
+  out_small k = omega (arith, s.leaving k, queue_small k)
+
+  pub arrival_small : (k : ℕ) → slice_index v k ≤ 100000
+  arrival_small k = omega (arith, s.arrived k, load_top n ok k, top_high n ok k)
+
+  pub inflow_few : (k : ℕ) → inflow n o k ≤ 25600000
+  unfolding inflow
+  inflow_few k = inflow_small n ok o out_small k
+
+  pub amount_past : (k : ℕ) → length n.links ≤ k → amount n o q v k ≡ 0
+  unfolding amount
+  amount_past k h =
+      omega (arith, s.queued k, slice_index_tops n ok k, top_past n k h, s.arrived k, slice_index_loads n ok k, load_past n k h, inflow_past n ok o k h)
+
+  pub small : Small o q v
+  small = record { leaving = s.leaving; queued = queue_small; arrived = arrival_small }
 
 -- what is told of a link is the greatest amount
 pub lets_out : (n : Roads) → Sound n → (r x : List ℕ) (p m : ℕ) → m ≡ told (let_out n r x) p → LetsOut n r x p m

@@ -4,7 +4,7 @@ ghost use Rattle.model.specs.State.{whole, told};
 ghost use Rattle.network.specs.Sound.{TurnOk};
 ghost use Rattle.network.specs.Code.{roads};
 ghost use Rattle.network.specs.Network.{tops, loads, mode, green, wish, wishes, passage, inflow, amounts};
-ghost use Rattle.network.specs.Parts.{eased, Ready};
+ghost use Rattle.network.specs.Parts.{eased, Small};
 
 use super::Network;
 use crate::links::{Link, Turn};
@@ -135,7 +135,7 @@ impl Network {
         queues: &[u32; 64],
         arrivals: &[u32; 64],
     ) -> [u32; 64]
-        requires { Ready out.now queues.now arrivals.now }
+        requires { Small out.now queues.now arrivals.now }
         ensures { result ≡ amounts (roads self.now) out.now queues.now arrivals.now }
     {
         let inflows = self.inflows(out);

@@ -5,7 +5,7 @@ use Rattle.model.proofs.Core.{lamps_lit}
 use Rattle.network.specs.Code.{roads}
 use Rattle.network.specs.Network.{core, verdict_at}
 use Rattle.network.specs.Order.{flows_exactly}
-use Rattle.network.specs.Ranges.{sound, ready}
+use Rattle.network.specs.Ranges.{sound, ready, small}
 use Rattle.network.proofs.Stepping.{out_is, step_is}
 use Rattle.network.proofs.network.as_model.NetworkQueueModel.step.Goals as goal
 
@@ -14,9 +14,10 @@ amounts-amounts-requires c =
     let n = roads c.args.self.now in
     let r = c.lamps.ensures ∙ lamps_lit (core n) c.args.row in
     let o = out_is n c.args.row c.args.state _ _ _ _ _ c.tops-tops.ensures r c.capped_by-queues.ensures c.wishes-wishes.ensures c.releases-out.ensures in
-    ready n (sound c.args.self.now) c.lamps.result c.args.state c.args.arrivals _ _ _ o
+    small n (sound c.args.self.now) _ _ _
+    (ready n (sound c.args.self.now) c.lamps.result c.args.state c.args.arrivals _ _ _ o
     (c.capped_by-queues.ensures ∙ ap (λ xs. capped xs c.args.state) c.tops-tops.ensures)
-    (c.capped_by-coming.ensures ∙ ap (λ xs. capped xs c.args.arrivals) c.loads.ensures)
+    (c.capped_by-coming.ensures ∙ ap (λ xs. capped xs c.args.arrivals) c.loads.ensures))
 
 pub returns : goal.returns
 returns c =
