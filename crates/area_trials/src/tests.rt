@@ -27,7 +27,7 @@ pub(crate) fn told<T>(answer: Result<T, AreaFault>) -> Result<T, Refusal>
     answer.map_err(|fault| fault.into())
 }
 
-// The number at a place, counted from 1, or 0.
+// The number at a place, counted from 1, or 0. Trials have no crate in common, so streets are tried with one of their own.
 pub(crate) fn number_of(numbers: &[u32], place: usize) -> u32 {
     let number = place.checked_sub(1).and_then(|k| numbers.get(k));
     number.copied().unwrap_or(0)

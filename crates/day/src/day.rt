@@ -73,6 +73,7 @@ fn run_calls<S: Street>(
 }
 
 // The line of a sheet that was refused; an error is want of memory.
+// A verdict is made of the same fault: one function for both would take a closure for all that this one says.
 fn fault_line(heap: Global, why: ModelFault) -> Result<String, AllocError>
     ensures { Faulted string_bytes why result }
 {
@@ -116,6 +117,7 @@ fn day_of<S: ModelSheet>(heap: Global, input: &[u8]) -> Result<String, AllocErro
 }
 
 // What is printed of an input: a model sheet, whose first word tells the model, and then, counted from its end, a day sheet.
+// There are two kinds of model, so an `if` names both.
 // An error is want of memory.
 pub fn run_day(heap: Global, input: &[u8]) -> Result<String, AllocError>
     ensures { IfOk result (λ s. Printed input.now (string_bytes s)) }

@@ -32,6 +32,7 @@ pub enum Done {
 }
 
 // What a call came to, and the duty that is then in hand.
+// Area and duty are held apart, since giving back takes the duty by value: so each function says that they fit one another.
 pub struct Ran {
     pub done: Done,
     pub hand: Option<Duty>,
@@ -128,6 +129,7 @@ fn run_give<S: Street>(area: &mut Area<S>, duty: Duty) -> Ran
 }
 
 // One call of the day; `sheet` is the whole day sheet.
+// A match, since which call comes is read from the sheet, and whether there is a duty for it is known only then.
 pub(crate) fn run_call<S: Street>(
     area: &mut Area<S>,
     hand: Option<Duty>,

@@ -44,7 +44,7 @@ impl Link {
 }
 
 impl Turn {
-    // Whether the turn goes from one link to another.
+    // Whether the turn goes from one link to another. It compares two of the four fields, so it is no equality of turns.
     pub fn joins(&self, from: usize, to: usize) -> bool
         ensures { result ≡ joins self.now from to }
     {

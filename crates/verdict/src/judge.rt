@@ -25,6 +25,7 @@ fn judge_plan<M: Model>(model: &M, limits: &[Limit], sheet: &[u8]) -> Verdict
 }
 
 // The verdict where no model was read: its sheet's refusal, or the error that came.
+// A day makes a text of the same fault: one function for both would take a closure for all that this one says.
 fn judge_fault(why: ModelFault) -> Result<Verdict, AllocError>
     ensures { Faulted why result }
 {
@@ -50,6 +51,7 @@ fn judge_model<S: ModelSheet>(heap: Global, input: &[u8]) -> Result<Verdict, All
 }
 
 // The verdict on an input: a model sheet, whose first word tells the model, and then, counted from its end, a plan sheet.
+// There are two kinds of model, so an `if` names both.
 // An error is want of memory.
 pub fn judge(heap: Global, input: &[u8]) -> Result<Verdict, AllocError>
     ensures is { IfOk result (λ v. v ≡ verdict_on input.now) }

@@ -49,7 +49,7 @@ impl Book {
         self.plan_under(number).ok_or(AreaFault::NoPlan)
     }
 
-    // Is the envelope at or below the plan's start?
+    // Is the envelope at or below the plan's start? The queues are asked likewise, with a fault of their own.
     pub(crate) fn envelope_fits(&self, plan: &Plan) -> Result<(), AreaFault>
         ensures { asked result ≡ ask_below 22 (lowest_above self.now.position.envelope plan.now.start) }
     {

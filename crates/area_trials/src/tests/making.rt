@@ -19,7 +19,7 @@ pub type Given = (&'static [u32], bool);
 const TWO_MODES: &str =
     "modes 2 places 2 100000 200 100000 100 entries 8 150 10 20 50 70 10 10 110 limits 1 45600 2 1 1 2 1";
 
-// A state that begins with these numbers.
+// A state that begins with these numbers. One line, as where streets are tried: trials have no crate in common.
 fn state_of(numbers: &[u32]) -> [u32; 64] {
     array::from_fn(|k| numbers.get(k).copied().unwrap_or(0))
 }

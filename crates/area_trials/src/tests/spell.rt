@@ -22,6 +22,7 @@ pub enum Call {
 // A call, and how the area stands after it.
 pub type Called = (Call, Stands);
 
+// Area and duty are held apart, since giving back takes the duty by value: so each function that has both says that they fit.
 fn step<S: Street>(rt: &impl Abort, area: &mut Area<S>, duty: &Duty, due: Result<Showing, Refusal>)
     requires { OnDuty S.Street.seen area.old duty.now }
     ensures { OnDuty S.Street.seen area.new duty.now }
