@@ -35,7 +35,7 @@ impl Record for PlaceRecord {
     }
 }
 
-// An entry, in hundredths.
+// An entry, in hundredths. A kind of its own beside a number of any range, since its range is the sheet's and no one else's to set.
 #[derive(Clone, Copy)]
 pub struct EntryRecord;
 
