@@ -1,5 +1,6 @@
 #!/usr/bin/env python3
-"""cmp.py OLD NEW: what changed between two trees: public functions, types, impl members, definitions, theorems."""
+"""changes.py OLD NEW [rt|specs|proofs]: what differs between two checkouts: public functions and types with their
+clauses, members of traits and impl blocks, definitions of specs/, public theorems of proofs/."""
 import sys,os,re,collections
 def files(root,sub,ext):
     out=[]
@@ -23,9 +24,10 @@ def antt(root,sub):
             if not lines: continue
             lines=[l for l in lines if not l.startswith('pub use ')]
             if not lines: continue
-            if lines[0].strip().startswith('module'):
-                head=lines[0]; lines=lines[1:]
-                if not lines: continue
+            while lines and lines[0].strip().startswith('module'):
+                while lines and not lines[0].rstrip().endswith('where'): lines=lines[1:]
+                lines=lines[1:]
+            if not lines: continue
             m=re.match(r'\s*(?:abbrev |unfoldable )?(?:pub )?(?:record |data |abbrev )*([^\s:(){}]+)',lines[0])
             if not m: continue
             name=m.group(1); pub='pub' in lines[0].split(':')[0].split()
@@ -46,7 +48,7 @@ def rt(root):
     for c,f,s in files(root,'src','.rt'):
         if 'trials' in c: continue
         s=strip_comments(s,'//')
-        ctx=''
+        ctx=''; trait=False
         lines=s.split('\n'); i=0
         cont=None
         while i<len(lines):
@@ -57,8 +59,9 @@ def rt(root):
                 while '{' not in h: i+=1; h+=' '+lines[i].strip()
                 ctx=norm(h.split('{')[0]) if not h.startswith('impl') else norm(h.rstrip('{ '))
                 ctx=re.sub(r'^(pub )?(impl|trait)(<[^ ]*>)? ','',ctx) 
-                if h.startswith('pub trait') : d[(c,'trait '+ctx)]='pub|'+norm(h)+'|'+f
-            elif l.startswith('}'): ctx=''
+                trait=h.startswith('pub trait')
+                if trait: d[(c,'trait '+ctx)]='pub|'+norm(h)+'|'+f
+            elif l.startswith('}'): ctx=''; trait=False
             m=re.match(r'^\s*(pub(?:\([a-z]+\))? )?(?:const )?fn (\w+)',l)
             if m:
                 h=l; j=i
@@ -68,11 +71,11 @@ def rt(root):
                     h+=' '+lines[j].strip()
                 h=norm(re.sub(r'\{\s*$','',h)).rstrip(';').rstrip()
                 pub=m.group(1)=='pub ' or (ctx and (' for ' in ctx or 'trait' in '')) 
-                d[(c,(ctx+' ' if ctx else '')+'fn '+m.group(2))]=('pub' if m.group(1)=='pub ' else 'impl' if ' for ' in ctx else 'priv')+'|'+h+'|'+f
+                d[(c,(ctx+' ' if ctx else '')+'fn '+m.group(2))]=('pub' if m.group(1)=='pub ' or trait else 'impl' if ' for ' in ctx else 'priv')+'|'+h+'|'+f
                 i=j
             m=re.match(r'^pub (struct|enum) (\w+)',l)
             if m:
-                h=l; 
+                h=(lines[i-1]+' ' if i and lines[i-1].startswith('#[derive') else '')+l
                 if not l.rstrip().endswith(';'):
                     while not lines[i].startswith('}'): i+=1; h+=' '+lines[i].strip()
                 d[(c,m.group(1)+' '+m.group(2))]='pub|'+norm(h)+'|'+f

@@ -67,6 +67,7 @@ impl<'a, M: Model> CallRecord<'a, M> {
     {
         match word {
             b"shelve" => self.shelve_at(bytes, end),
+            // this arm and that of `change` differ by the call that they make
             b"take" => {
                 let shelf = shelf_at(bytes, end)?;
                 Ok(Recorded {

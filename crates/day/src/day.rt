@@ -27,6 +27,7 @@ struct Shift {
     written: Result<(), AllocError>,
 }
 
+// The area, its lines and the sheet stay apart: the area outlives the lines, and the sheet outlives both.
 // One call more, and its line.
 fn next_line<S: Street>(
     area: &mut Area<S>,

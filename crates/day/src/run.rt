@@ -14,7 +14,7 @@ use refusal::Refusal;
 use street::{Showing, Street};
 use words::word::rest_of;
 
-// What a call came to.
+// What a call came to. One enum for what was done and what was not, since each case is a line that is printed.
 #[derive(Clone, Copy)]
 pub enum Done {
     // a plan of so many rows stands on the shelf

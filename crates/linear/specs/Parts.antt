@@ -1,4 +1,4 @@
--- What the inner functions of a step promise one another.
+-- What the inner functions of a step promise one another, and the numbers that are told of a place.
 use Rattle.std.specs.Prelude.{◌≡◌, ℕ, ◌+◌, ◌-◌, ◌*◌, ◌≤◌, List, length, slice_index, slice_range}
 use Rattle.model.specs.State.{told}
 use Rattle.linear.specs.declared.place.Place.{Place}

@@ -36,6 +36,7 @@ fn modes_section(bytes: &[u8], at: usize) -> Result<Reading<u32>, SheetFault>
     number(bytes, named, 1, 8)
 }
 
+// A function for each section, since each has a promise of its own that the promise of the whole is made of.
 // 1 to 16 places.
 fn places_section(heap: Global, bytes: &[u8], at: usize) -> Result<Listed<Place>, ModelFault>
     ensures { ListedAs result (places_section bytes.now at) }

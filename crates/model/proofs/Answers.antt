@@ -1,5 +1,5 @@
 -- Laws of the lowest held place.
-use Rattle.std.proofs.Common.{◌≡◌, ℕ, zero, suc, ◌+◌, ◌<◌, Bool, true, false, cond, refl, ap, ◌∙◌, ⊎_elim, add-one, arith}
+use Rattle.std.proofs.Common.{◌≡◌, ℕ, zero, suc, ◌<◌, Bool, true, false, cond, refl, ap, ◌∙◌, ⊎_elim, arith}
 use Rattle.std.proofs.lemmas.Bool.{cases_lt}
 use Rattle.model.specs.declared.Answer.{Answer}
 use Rattle.model.specs.declared.Answer.TheVariants.{Clear, Held}
@@ -9,14 +9,6 @@ use Rattle.model.specs.Model.{first, lowest}
 first_clear : (a b : Answer) → first a b ≡ Clear → (a ≡ Clear) × (b ≡ Clear)
 first_clear Clear b e = (refl, e)
 first_clear (Held p c) b e = (e, absurd (let z : ◌≡◌ {A = ℕ} 0 1 = cc in omega arith))
-
-pub lowest_none : (f : ℕ → Answer) → lowest 0 f ≡ Clear
-unfolding lowest
-lowest_none f = refl
-
-pub lowest_more : (n : ℕ) (f : ℕ → Answer) → lowest (n + 1) f ≡ first (lowest n f) (f n)
-unfolding lowest
-lowest_more n f = rw add-one refl
 
 pub lowest_clear : (n : ℕ) (f : ℕ → Answer) → lowest n f ≡ Clear → (k : ℕ) → k < n → f k ≡ Clear
 unfolding lowest
@@ -51,9 +43,6 @@ lowest_found (suc n) f k p c h e s =
     (λ l. ap (λ a. first a (f n)) (lowest_found n f k p c l e s))
     (λ l. let same : k ≡ n = omega arith in ap (λ a. first a (f n)) (rw same at e) ∙ (rw same at s))
     (cases_lt k n)
-
-pub lowest_next : (n : ℕ) (f : ℕ → Answer) → lowest n f ≡ Clear → f n ≡ Clear → lowest (n + 1) f ≡ Clear
-lowest_next n f e s = lowest_more n f ∙ (ap (λ a. first a (f n)) e ∙ s)
 
 -- a test that holds a place, and is clear
 pub clear_cond : (b : Bool) (p : ℕ) (c : Cause) (a : Answer) → cond b (Held p c) a ≡ Clear → (b ≡ false) × (a ≡ Clear)

@@ -95,29 +95,12 @@ pub told_none : (xs : List ℕ) (n p : ℕ) → (1 ≤ p → n < p) → ((k : �
 told_none xs n zero h z = refl
 told_none xs n (suc k) h z = z k (omega (arith, h (omega arith)))
 
-pub told_outside : (xs : List ℕ) (p : ℕ) → (1 ≤ p → length xs < p) → told xs p ≡ 0
-told_outside xs p h = told_none xs (length xs) p h (λ k l. get_or_past xs k 0 l)
-
 pub zeros_fit : (modes : List ℕ) → fits_row modes (replicate 32 0) ≡ true
 zeros_fit modes = every_from 32 _ (λ k h. le-leb _ _ (omega (arith, slice_index_zeros 32 k)))
 
 pub fits_end : (modes r : List ℕ) → fits_row modes r ≡ true → (j : ℕ) → length modes ≤ j → j < 32 → get_or r j 0 ≡ 0
 fits_end modes r e j h l =
     omega (arith, leb-true _ _ (every_at 32 (λ i. leb (get_or r i 0) (get_or modes i 0)) e j l), get_or_past modes j 0 h)
-
--- one place further in the search for the lowest place above
-module _ (x y : List ℕ) (n k : ℕ) (h : k < n) where
-  opened : above_from (n - k) k x y ≡ above_from (suc (n - (k + 1))) k x y
-  opened = let e : n - k ≡ suc (n - (k + 1)) = omega arith in ap (λ m. above_from m k x y) e
-
-  pub above_here : ltb (get_or y k 0) (get_or x k 0) ≡ true → above_from (n - k) k x y ≡ Some (k + 1)
-  above_here g = opened ∙ cond-true _ _ _ g
-
-  pub above_more : ltb (get_or y k 0) (get_or x k 0) ≡ false → above_from (n - k) k x y ≡ above_from (n - (k + 1)) (k + 1) x y
-  above_more g = opened ∙ cond-false _ _ _ g
-
-pub above_done : (x y : List ℕ) (n k : ℕ) → n ≤ k → above_from (n - k) k x y ≡ None
-above_done x y n k h = let e : n - k ≡ 0 = omega arith in ap (λ m. above_from m k x y) e
 
 some_not_none : {P : Type 0} (p : ℕ) → ◌≡◌ {A = Option ℕ} (Some p) None → P
 some_not_none p e = let z : ◌≡◌ {A = ℕ} 0 1 = cc in absurd (omega arith)

@@ -1,7 +1,7 @@
 // Models: what steps a state of queues by a row of signal modes and by arrivals.
 // A state is sixty-four numbers, one for each place; a row is thirty-two modes, one for each signal.
 // Both are arrays with zeros beyond the last place or signal, since a step allocates nothing.
-// Places and signals are numbered from 1, and a question out of range answers 0.
+// Places and signals are numbered from 1, and a question out of range answers 0: that is what a state holds beyond the last place.
 #![tactic(auto)]
 
 ghost use Rattle.std.specs.Prelude.{◌≡◌, ◌+◌, ◌<◌};
@@ -77,7 +77,7 @@ pub trait Model {
         )
     }
 
-    // The most that can arrive at each place in one step.
+    // The most that can arrive at each place in one step. Beside `tops`, since each asks a question of its own.
     fn loads(&self) -> [u32; 64]
         ensures { result ≡ (meaning self.now).loads }
     {

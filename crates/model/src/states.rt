@@ -13,7 +13,7 @@ pub fn number_at(state: &[u32; 64], place: usize) -> u32
 }
 
 // Each number of the state, or the bound where it is above that.
-// Here and wherever an array is made by a closure, the closure says itself for which places it is asked.
+// The closure says itself for which places it is asked, since an array asks for each of its own.
 pub fn capped_by(bounds: &[u32; 64], state: &[u32; 64]) -> [u32; 64]
     ensures { result ≡ capped bounds.now state.now }
 {

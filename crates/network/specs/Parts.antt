@@ -1,4 +1,4 @@
--- What the inner functions of a step promise one another.
+-- What the inner functions of a step promise one another, and the numbers that are told of a place.
 use Rattle.std.specs.Prelude.{◌≡◌, ℕ, ◌-◌, ◌≤◌, min, List, fold, slice_index, slice_set}
 use Rattle.model.specs.State.{Below, whole, told}
 use Rattle.network.specs.declared.links.Link.{Link}

@@ -4,7 +4,7 @@ ghost use Rattle.network.specs.Network.{green_in, joins};
 
 // At the head of a link a junction shows it green in the phases of its mask: bit p - 1 for phase p.
 // The top is the link's storage, the flow the most that it lets out in a step, the load the most that arrives in one.
-// The name has zeros beyond its last letter: a table, since a link is copied and reading a record asks for no memory.
+// The name has zeros beyond its last letter: a table, and plain, since a record that is read is copied, as a list is not.
 // Junctions are counted from 1, and 0 is outside. A tail is only compared with heads, so an Option would never be opened.
 #[derive(Clone, Copy)]
 pub struct Link {

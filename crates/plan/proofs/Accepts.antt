@@ -83,9 +83,6 @@ module _ (m : Meaning) (ls : List Limit) where
     opened : n < length rs → check_rows m ls n x (drop n rs) ≡ then (check_row m ls n (get_or rs n []) x) (λ z. check_rows m ls (n + 1) z (drop (n + 1) rs))
     opened h = at_drop_more (check_rows m ls n x) rs n [] h
 
-    pub rows_more : n < length rs → (y : List ℕ) → Ok y ≡ check_row m ls n (get_or rs n []) x → check_rows m ls n x (drop n rs) ≡ check_rows m ls (n + 1) y (drop (n + 1) rs)
-    rows_more h y e = opened h ∙ then_ok (λ z. check_rows m ls (n + 1) z (drop (n + 1) rs)) (sym e)
-
     pub rows_stop : n < length rs → (d : Refusal) → Err d ≡ check_row m ls n (get_or rs n []) x → check_rows m ls n x (drop n rs) ≡ Err d
     rows_stop h d e = opened h ∙ then_err (λ z. check_rows m ls (n + 1) z (drop (n + 1) rs)) (sym e)
 

@@ -54,6 +54,7 @@ pub fn check<M: Model>(model: &M, limits: &[Limit], plan: &Plan) -> Result<usize
     let rows = plan.rows();
     let loads = model.loads();
     let mut state = plan.start;
+    // the number of the row is told where it is turned down
     for (n, row) in rows.iter().enumerate() {
         state = pass_row(model, limits, n, *row, state, loads)?;
     }

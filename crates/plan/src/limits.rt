@@ -12,7 +12,7 @@ pub struct Term {
 }
 
 // A bound on the sum of weight × value over the terms; the table has zeros beyond the last term.
-// A table with a count, since reading a record asks for no memory: it says a limit or has a fault of the sheet.
+// A table with a count, and plain: a record that is read is copied, as a list is not, whether it lies on the heap or not.
 #[derive(Clone, Copy)]
 pub struct Limit {
     pub bound: u32,

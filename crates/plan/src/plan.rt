@@ -2,7 +2,7 @@
 ghost use Rattle.std.specs.Prelude.{◌≤◌};
 
 // A start and 1 to 64 rows, numbered from 0; the table has zeros beyond the last row.
-// A table with a count, since a plan is copied from its shelf and nothing on an area's way allocates.
+// A table with a count, and plain: a plan is copied from its shelf, as a list is not, whether it lies on the heap or not.
 #[derive(Clone, Copy)]
 pub struct Plan {
     pub start: [u32; 64],

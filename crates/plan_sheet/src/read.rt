@@ -88,6 +88,7 @@ impl<'a, M: Model> Record for RowRecord<'a, M> {
     }
 }
 
+// The model and the sheet come apart here and where a sheet is checked: the kinds of record hold the model, and the sheet is what is read.
 // The section `start`: exactly the model's places.
 fn start_section<M: Model>(model: &M, bytes: &[u8]) -> Result<Recorded<[u32; 64]>, SheetFault>
     ensures { told result ≡ start_section (M.Model.meaning model.now) bytes.now }

@@ -1,4 +1,5 @@
 // A refusal: the number of the question that was answered no, and its two places.
+// Numbers, since this is what is printed and looked up: the cases stand in the enums that a refusal is made from.
 #![tactic(auto)]
 
 ghost use Rattle.std.specs.Prelude.{Some};

@@ -5,3 +5,4 @@ pub mod Careful
 pub mod Fed
 pub mod Views
 pub mod Moving
+pub mod Steps

@@ -134,6 +134,7 @@ impl<M: Model, F: Feed> Street for FedStreet<M, F> {
 
     fn lamp(&self, signal: usize) -> u8 {
         let lamps = self.model.lamps(self.standing.lamps);
+        // as `number_at` of states, whose numbers are of another type
         let mode = signal.checked_sub(1).and_then(|k| lamps.get(k));
         mode.copied().unwrap_or(0)
     }

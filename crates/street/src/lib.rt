@@ -38,7 +38,7 @@ pub trait Street: Model {
         ensures is { result ≡ told (seen self.now).arrivals place }
         ensures within { Bounded (Self.Model.meaning self.now) (seen self.now) };
 
-    // A street keeps the bounds of its model, asked or not.
+    // A street keeps the bounds of its model, asked or not. Each answer promises it too, so that whoever asks need not know of laws.
     ghost bounded: { (s : Self) → Bounded (Self.Model.meaning s) (seen s) };
 }
 

@@ -1,24 +1,13 @@
 -- What a numeral writes, digit by digit.
-use Rattle.std.proofs.Common.{◌≡◌, ℕ, zero, suc, ◌+◌, ◌-◌, ◌*◌, ◌^◌, ◌<◌, ◌≤◌, true, false, ◌&&◌, List, [], ◌∷◌, length, get_or, take, drop, sym, refl, ap, ◌∙◌, arith, length-take, rules}
+use Rattle.std.proofs.Common.{◌≡◌, ℕ, zero, suc, ◌+◌, ◌-◌, ◌*◌, ◌^◌, ◌<◌, ◌≤◌, true, List, [], ◌∷◌, length, get_or, take, sym, refl, ap, ◌∙◌, arith, length-take, rules}
 use Rattle.std.specs.Str.Parse.{digits_value, AllDigits}
 use Rattle.std.specs.Char.{digit_value as digitValue}
 use Rattle.std.specs.Int.{IsInRange}
-use Rattle.std.proofs.lemmas.List.{at_drop_more, at_drop_all}
-use Rattle.std.proofs.lemmas.Bool.{and_parts, and_from, and_left, leb-true}
+use Rattle.std.proofs.lemmas.Bool.{and_parts, and_from, leb-true}
 use Rattle.std.proofs.lemmas.Bool.Decides.{nat_tests}
 use Rattle.std.proofs.lemmas.Int.Digits.{digits_value_more}
 use Rattle.std.proofs.lemmas.Str.Parse.{IsNumeralModel, digit_at, digits_value_short, numerals_by_value}
 use Rattle.words.specs.Words.{digit, digits, numeral}
-
-module _ (bs : List ℕ) (i : ℕ) where
-  pub digits_more : i < length bs → digit (get_or bs i 0) ≡ true → digits (drop i bs) ≡ digits (drop (i + 1) bs)
-  digits_more h d = at_drop_more digits bs i 0 h ∙ ap (λ b. b && digits (drop (i + 1) bs)) d
-
-  pub digits_stop : i < length bs → digit (get_or bs i 0) ≡ false → digits (drop i bs) ≡ false
-  digits_stop h d = at_drop_more digits bs i 0 h ∙ and_left _ _ d
-
-  pub digits_done : length bs ≤ i → digits (drop i bs) ≡ true
-  digits_done h = at_drop_all digits bs i h
 
 digit_value : (b : ℕ) → digit b ≡ true → digitValue b < 10
 digit_value b h = grind (arith, nat_tests)

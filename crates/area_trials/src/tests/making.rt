@@ -25,15 +25,11 @@ fn state_of(numbers: &[u32]) -> [u32; 64] {
 }
 
 fn groups_of(heap: Global, given: &[Given]) -> Result<Vec<Group>, AllocError> {
-    let mut groups = Vec::new(heap);
-    for (numbers, dark) in given {
-        let arrivals = state_of(numbers);
-        groups.push(Group {
-            arrivals,
-            dark: *dark,
-        })?;
-    }
-    Ok(groups)
+    let groups = given.iter().map(|(numbers, dark)| Group {
+        arrivals: state_of(numbers),
+        dark: *dark,
+    });
+    groups.collect(heap)
 }
 
 // Two junctions and three links; the one limit has this bound on links 1 and 3 together.

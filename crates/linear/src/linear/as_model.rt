@@ -50,6 +50,7 @@ impl QueueModel for Linear {
         [0; 32]
     }
 
+    // Both models cap, move and cap again; what moves and what is held is each one's own, and so is the promise.
     // Clear exactly where no top cuts a value off.
     fn step(&self, row: [u8; 32], state: [u32; 64], arrivals: [u32; 64]) -> Step
         ensures is { result ≡ stepped (linear (lines self.now)) row state arrivals }

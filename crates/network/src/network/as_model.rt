@@ -41,6 +41,7 @@ impl QueueModel for Network {
         [0; 32]
     }
 
+    // Both models cap, move and cap again; what moves and what is held is each one's own, and so is the promise.
     // Clear exactly where each link lets out its wish and no top cuts a queue off.
     fn step(&self, row: [u8; 32], state: [u32; 64], arrivals: [u32; 64]) -> Step
         ensures is { result ≡ stepped (network (roads self.now)) row state arrivals }

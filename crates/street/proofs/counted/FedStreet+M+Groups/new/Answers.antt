@@ -1,4 +1,4 @@
-use Rattle.street.proofs.Steps.{by_groups}
+use Rattle.street.specs.Steps.{by_groups}
 use Rattle.street.proofs.counted.FedStreet+M+Groups.new.Goals as goal
 
 pub returns-clause-steps : goal.returns-clause-steps

@@ -1,4 +1,4 @@
-use Rattle.street.proofs.Steps.{heavily}
+use Rattle.street.specs.Steps.{heavily}
 use Rattle.street.proofs.heavy.FedStreet+M+Loads.new.Goals as goal
 
 pub returns-clause-steps : goal.returns-clause-steps

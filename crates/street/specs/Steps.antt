@@ -1,4 +1,4 @@
--- Every step of the heavy and of the counted street, exactly.
+-- Every step of the heavy and of the counted street, exactly: what `show` promises of any feed comes to these, for whoever is handed such a street.
 use Rattle.std.proofs.Common.{◌≡◌, List, [], ◌∷◌, map, refl}
 use Rattle.model.specs.Model.{Meaning, Lawful}
 use Rattle.street.specs.declared.groups.Group.{Group}
