@@ -83,6 +83,7 @@ pub(crate) fn try_step<S: Street>(rt: &impl Abort, street: &mut S, number: usize
 
 // Runs a table of rows on any street.
 pub(crate) fn try_steps<S: Street>(rt: &impl Abort, street: &mut S, steps: &[Step]) {
+    // the number of the step is told where one fails
     for (before, step) in steps.iter().enumerate() {
         try_step(rt, street, before.saturating_add(1), step);
     }

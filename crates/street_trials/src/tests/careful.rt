@@ -59,6 +59,7 @@ const MARKED_GROUPS: [Given; 3] = [
 ];
 
 fn try_careful<S: Street>(rt: &impl Abort, street: &mut S, tried: &[Tried]) {
+    // the number of the step is told where one fails
     for (before, one) in tried.iter().enumerate() {
         let number = before.saturating_add(1);
         let (row, answer, queues, lamps, arrivals) = *one;

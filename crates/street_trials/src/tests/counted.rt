@@ -56,6 +56,7 @@ const LINEAR_STEPS: [Step; 8] = [
 
 // Each step uses up one group, whatever is answered, and with none left there are none.
 fn try_counted<M: Model>(rt: &impl Abort, street: &mut CountedStreet<M>, steps: &[Step]) {
+    // the number of the step is told where one fails
     for (before, step) in steps.iter().enumerate() {
         let number = before.saturating_add(1);
         let left = street.groups_left().saturating_sub(1);

@@ -43,9 +43,9 @@ fn try_red<S: Street>(rt: &impl Abort, street: &mut S, arrival: u32, queue: u32)
 
 // Sixteen rounds of four groups, which bring 0, 1, 2 and 3. A round is told by its number: what is left and what came follow from it.
 fn try_rounds<M: Model>(rt: &impl Abort, street: &mut CountedStreet<M>) {
-    for round in 0..16u32 {
-        let before = round * 6;
-        assert_eq!(rt; street.groups_left(), 64 - 4 * round as usize);
+    for round in 0..16u8 {
+        let before = u32::from(round) * 6;
+        assert_eq!(rt; street.groups_left(), 64 - 4 * usize::from(round));
         try_red(rt, street, 0, before);
         try_red(rt, street, 1, before + 1);
         try_red(rt, street, 2, before + 3);

@@ -81,6 +81,7 @@ fn check_numbers<M: Model>(rt: &impl Abort, model: &M, tops: &[u32], loads: &[u3
 }
 
 fn check_steps<M: Model>(rt: &impl Abort, model: &M, steps: &[Stepped]) {
+    // the number of the step is told where one fails
     for (k, step) in steps.iter().enumerate() {
         let (row, state, arrivals, next, answer) = *step;
         let made = model.step(filled(row), filled(state), filled(arrivals));
