@@ -6,6 +6,3 @@ pub entry_inside : (m i j p modes : ℕ) → 1 ≤ m → m ≤ modes → i < p �
 entry_inside m i j p modes a b c d =
     rw (mul_comm (modes * p) p ∙ ap (λ z. p * z) (mul_comm modes p))
     (mul-add-lt ((m - 1) * p + i) p j (p * modes) (mul-add-lt (m - 1) p i modes (omega arith) c) d)
-
-pub line_inside : (m i p modes : ℕ) → 1 ≤ m → m ≤ modes → i < p → ((m - 1) * p + i) * p + p ≤ modes * p * p
-line_inside m i p modes a b c = let h = entry_inside m i (p - 1) p modes a b c (omega arith) in omega arith

@@ -1,3 +1,2 @@
 pub mod Bounds
-pub mod Sums
 pub mod Stepping

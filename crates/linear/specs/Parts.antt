@@ -1,5 +1,5 @@
 -- What the inner functions of a step promise one another, and the numbers that are told of a place.
-use Rattle.std.specs.Prelude.{◌≡◌, ℕ, ◌+◌, ◌-◌, ◌*◌, ◌≤◌, List, length, slice_index, slice_range}
+use Rattle.std.specs.Prelude.{◌≡◌, ℕ, ◌≤◌, List, slice_index}
 use Rattle.model.specs.State.{told}
 use Rattle.linear.specs.declared.place.Place.{Place}
 use Rattle.linear.specs.Lines.{Lines, tops, loads}
@@ -12,12 +12,6 @@ pub record NumbersOf (n : Lines) (p : ℕ) (l : Place) : Type 0 where
 pub record NoneOf (n : Lines) (p : ℕ) : Type 0 where
   pub top : told (tops n) p ≡ 0
   pub load : told (loads n) p ≡ 0
-
--- line i of mode m
-abbrev pub line_of : Lines → ℕ → ℕ → List ℕ
-line_of n m i =
-    let start = ((m - 1) * length n.places + i) * length n.places in
-    slice_range n.entries start (start + length n.places)
 
 -- what the amounts are worked out from: a mode of the model, and values and arrivals within the greatest top
 pub record Ready (n : Lines) (m : ℕ) (x v : List ℕ) : Type 0 where

@@ -4,3 +4,4 @@ pub mod Core
 pub mod Made
 pub mod Chains
 pub mod Numbers
+pub mod Filled

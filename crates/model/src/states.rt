@@ -8,7 +8,8 @@ use std::array;
 pub fn number_at(state: &[u32; 64], place: usize) -> u32
     ensures { result ≡ told state.now place }
 {
-    let number = place.checked_sub(1).and_then(|k| state.get(k));
+    // place 0 wraps to a place far beyond the last, so that one comparison finds both ends
+    let number = state.get(place.wrapping_sub(1));
     number.copied().unwrap_or(0)
 }
 

@@ -45,6 +45,23 @@ impl QueueModel for Linear {
         fits_modes(&[self.modes], &row)
     }
 
+    // Over the places that there are: the trait's own `tops` and `loads` ask for each of 64, which costs a model of a few places more than its step.
+    fn tops(&self) -> [u32; 64] {
+        let mut tops = [0; 64];
+        for (k, place) in self.places.iter().enumerate() {
+            tops[k] = place.top;
+        }
+        tops
+    }
+
+    fn loads(&self) -> [u32; 64] {
+        let mut loads = [0; 64];
+        for (k, place) in self.places.iter().enumerate() {
+            loads[k] = place.load;
+        }
+        loads
+    }
+
     #[tactic(auto, unfolding(model::specs::Model::dark_row))]
     fn dark(&self) -> [u8; 32] {
         [0; 32]

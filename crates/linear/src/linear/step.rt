@@ -2,12 +2,11 @@
 ghost use Rattle.std.specs.Prelude.{◌≡◌, ℕ, ◌*◌, ◌<◌, ◌≤◌, length, MatchOption, slice_index};
 ghost use Rattle.model.specs.State.{told};
 ghost use Rattle.linear.specs.Code.{lines};
-ghost use Rattle.linear.specs.Lines.{tops, loads, line_sum, units, inside, amount, amounts};
-ghost use Rattle.linear.specs.Parts.{line_of, Ready};
+ghost use Rattle.linear.specs.Lines.{tops, loads, entry, part, line_sum, units, amount, amounts};
+ghost use Rattle.linear.specs.Parts.{Ready};
 
 use super::Linear;
 use crate::place::Place;
-use std::array;
 
 impl Linear {
     // The place of a number, counted from 1. Each model has its own, since it promises the tops and the loads of that model.
@@ -19,32 +18,51 @@ impl Linear {
     }
 }
 
+// A value by the weight of an entry, in hundredths.
+fn weighed(entry: u32, value: u32) -> u32
+    requires { (entry ≤ 10000) × (value ≤ 100000) }
+    ensures value { result ≡ entry * value }
+    ensures small { result ≤ 1000000000 }
+{
+    entry * value
+}
+
 impl Linear {
-    // The line of a mode for the place after k others: an entry for each place.
-    #[tactic(auto, using(crate::proofs::Bounds::line_inside))]
-    fn line(&self, mode: u8, k: usize) -> &[u32]
+    // The entry of a mode at a line and a column.
+    fn entry(&self, mode: u8, line: usize, column: usize) -> u32
         requires moded { (1 ≤ mode) × (mode ≤ self.now.modes) }
-        requires inside { k < length self.now.places.items }
-        ensures { result.now ≡ line_of (lines self.now) mode k }
+        requires inside { (line < length self.now.places.items) × (column < length self.now.places.items) }
+        ensures value { result ≡ entry (lines self.now) mode line column }
+        ensures small { result ≤ 10000 }
     {
         let count = self.places.len();
-        let start = ((usize::from(mode) - 1) * count + k) * count;
-        &self.entries[start..start + count]
+        self.entries[((usize::from(mode) - 1) * count + line) * count + column]
     }
 
-    // The sum of a line, in hundredths: too large for 32 bits.
-    fn line_sum(&self, mode: u8, values: &[u32; 64], k: usize) -> u64
+    // What the value of a column adds to a line, in hundredths.
+    fn part(&self, mode: u8, values: &[u32; 64], line: usize, column: usize) -> u32
         requires moded { (1 ≤ mode) × (mode ≤ self.now.modes) }
-        requires inside { k < length self.now.places.items }
-        requires small { (j : ℕ) → slice_index values.now j ≤ 100000 }
-        ensures value { result ≡ line_sum (lines self.now) mode values.now k }
+        requires inside { (line < length self.now.places.items) × (column < length self.now.places.items) }
+        requires small { (k : ℕ) → slice_index values.now k ≤ 100000 }
+        ensures value { result ≡ part (lines self.now) mode values.now line column }
+        ensures small { result ≤ 1000000000 }
+    {
+        weighed(self.entry(mode, line, column), values[column])
+    }
+
+    // The sum of a line, in hundredths: too large for 32 bits. Column by column, since an entry is told by its line and its column.
+    fn line_sum(&self, mode: u8, values: &[u32; 64], line: usize) -> u64
+        requires moded { (1 ≤ mode) × (mode ≤ self.now.modes) }
+        requires inside { line < length self.now.places.items }
+        requires small { (k : ℕ) → slice_index values.now k ≤ 100000 }
+        ensures value { result ≡ line_sum (lines self.now) mode values.now line }
         ensures small { result ≤ 16000000000 }
     {
-        let line = self.line(mode, k);
-        line.iter()
-            .zip(values)
-            .map(|(entry, value)| u64::from(*entry) * u64::from(*value))
-            .sum()
+        let mut sum = 0;
+        for column in 0..self.places.len() {
+            sum += u64::from(self.part(mode, values, line, column));
+        }
+        sum
     }
 }
 
@@ -58,16 +76,13 @@ fn units(hundredths: u64) -> u32
 }
 
 impl Linear {
-    // The value at the place after k others once a step is done, before its top cuts it off; 0 beyond the last place.
+    // The value at the place after k others once a step is done, before its top cuts it off.
     #[tactic(auto, unfolding(crate::specs::Lines::amount))]
     fn amount(&self, mode: u8, values: &[u32; 64], arrivals: &[u32; 64], k: usize) -> u32
-        requires near { k < 64 }
+        requires within { k < length self.now.places.items }
         requires ready { Ready (lines self.now) mode values.now arrivals.now }
-        ensures { result ≡ inside (lines self.now) (amount (lines self.now) mode values.now arrivals.now) k }
+        ensures { result ≡ amount (lines self.now) mode values.now arrivals.now k }
     {
-        if k >= self.places.len() {
-            return 0;
-        }
         let carried = if mode == 0 {
             values[k]
         } else {
@@ -77,10 +92,15 @@ impl Linear {
     }
 
     // The amount of each place. The mode and the values come as they stand: a struct of both would be opened again at each line.
+    // Over the places that there are, since a linear model has far fewer than 64.
     pub(super) fn amounts(&self, mode: u8, values: &[u32; 64], arrivals: &[u32; 64]) -> [u32; 64]
         requires { Ready (lines self.now) mode values.now arrivals.now }
         ensures { result ≡ amounts (lines self.now) mode values.now arrivals.now }
     {
-        array::from_fn(|k| self.amount(mode, values, arrivals, k))
+        let mut amounts = [0; 64];
+        for k in 0..self.places.len() {
+            amounts[k] = self.amount(mode, values, arrivals, k);
+        }
+        amounts
     }
 }

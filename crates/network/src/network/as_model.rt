@@ -36,6 +36,23 @@ impl QueueModel for Network {
         fits_modes(&self.phases, &row)
     }
 
+    // Over the links that there are: the trait's own `tops` and `loads` ask for each of 64 places, which costs a small network more than its step.
+    fn tops(&self) -> [u32; 64] {
+        let mut tops = [0; 64];
+        for (k, link) in self.links.iter().enumerate() {
+            tops[k] = link.top;
+        }
+        tops
+    }
+
+    fn loads(&self) -> [u32; 64] {
+        let mut loads = [0; 64];
+        for (k, link) in self.links.iter().enumerate() {
+            loads[k] = link.load;
+        }
+        loads
+    }
+
     #[tactic(auto, unfolding(model::specs::Model::dark_row))]
     fn dark(&self) -> [u8; 32] {
         [0; 32]

@@ -49,21 +49,15 @@ impl Link {
 }
 
 impl Network {
-    // What the link after k others would let out.
-    fn wish(&self, row: &[u8; 32], queues: &[u32; 64], k: usize) -> u32
-        requires { k < 64 }
-        ensures { result ≡ wish (roads self.now) row.now queues.now k }
-    {
-        self.links
-            .get(k)
-            .map_or(0, |link| link.wish(row, queues[k]))
-    }
-
-    // What each link would let out.
+    // What each link would let out. Over the links that there are, since a small network has far fewer than 64.
     pub(super) fn wishes(&self, row: &[u8; 32], queues: &[u32; 64]) -> [u32; 64]
         ensures { result ≡ wishes (roads self.now) row.now queues.now }
     {
-        array::from_fn(|k| self.wish(row, queues, k))
+        let mut wishes = [0; 64];
+        for (k, link) in self.links.iter().enumerate() {
+            wishes[k] = link.wish(row, queues[k]);
+        }
+        wishes
     }
 
     // The most that the turn has room for.
