@@ -21,7 +21,8 @@ fn value_of(text: &[u8]) -> u32
     n
 }
 
-// The next word as a number from `low` to `high`.
+// The next word as a number from `low` to `high`, with the hint of `next_word`.
+#[inline(always)]
 pub fn number(bytes: &[u8], at: usize, low: u32, high: u32) -> Result<Reading<u32>, SheetFault>
     ensures is { told result ≡ number_at bytes.now at low high }
     ensures within { IfOk result (λ n. (low ≤ n.value) × (n.value ≤ high)) }

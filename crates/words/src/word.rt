@@ -85,7 +85,8 @@ fn is_numeral(text: &[u8]) -> bool
     all_digits(text) && !text.is_empty() && text.len() <= 9 && (text.len() <= 1 || text[0] != b'0')
 }
 
-// The next word from `at` on.
+// The next word from `at` on. The hint: called, it takes half as much again for a short word.
+#[inline(always)]
 pub fn next_word<'a>(bytes: &'a [u8], at: usize) -> Result<Word<'a>, SheetFault>
     ensures is { shown result ≡ word_at bytes.now at }
     ensures within { Sound bytes.now result }
