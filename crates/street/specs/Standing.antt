@@ -23,6 +23,10 @@ answer_for m marked row = cond marked Dark (cond (m.legal row) Shown Dark)
 abbrev pub moved : Meaning → Showing → List ℕ → List ℕ → Seen → Seen
 moved m answer row v s = record { queues = m.next (lamps_after m answer row) s.queues v; lamps = lamps_after m answer row; arrivals = v }
 
+-- a standing before the first step, with these queues
+abbrev pub Fresh : Meaning → List ℕ → Standing → Type 0
+Fresh m queues t = seen_of m t ≡ fresh_seen m queues
+
 -- a standing moved by one step, in which arrivals above a load counted as that
 abbrev pub After : Meaning → Bool → List ℕ → List ℕ → Standing → Standing → Type 0
 After m marked row v s t = seen_of m t ≡ moved m (answer_for m marked row) row (capped m.loads v) (seen_of m s)

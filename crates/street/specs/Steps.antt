@@ -6,11 +6,11 @@ use Rattle.street.specs.Counted.{first_of, rest, capped_group}
 use Rattle.street.specs.Views.{StepsHeavily, StepsByGroups, to_come}
 use Rattle.street.specs.Moving.{no_arrivals, loads_own}
 
-rest_map : (m : Meaning) (gs : List Group) → rest (map (capped_group m) gs) ≡ map (capped_group m) (rest gs)
+pub rest_map : (m : Meaning) (gs : List Group) → rest (map (capped_group m) gs) ≡ map (capped_group m) (rest gs)
 rest_map m [] = refl
 rest_map m (g ∷ gs) = refl
 
-first_map : (m : Meaning) → Lawful m → (gs : List Group) → first_of (map (capped_group m) gs) ≡ capped_group m (first_of gs)
+pub first_map : (m : Meaning) → Lawful m → (gs : List Group) → first_of (map (capped_group m) gs) ≡ capped_group m (first_of gs)
 first_map m law [] = let z = no_arrivals m law in cc
 first_map m law (g ∷ gs) = refl
 

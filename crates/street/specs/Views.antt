@@ -1,11 +1,11 @@
 -- What the heavy and the counted street bring, and one step of each, whatever their model means.
-use Rattle.std.specs.Prelude.{◌≡◌, ℕ, false, List, map}
+use Rattle.std.specs.Prelude.{◌≡◌, ℕ, false, List, map, take, drop}
 use Rattle.model.specs.Model.{Meaning}
 use Rattle.street.specs.declared.Showing.{Showing}
 use Rattle.street.specs.declared.groups.Group.{Group}
 use Rattle.street.specs.declared.fed.FedStreet.{FedStreet}
 use Rattle.street.specs.declared.heavy.Loads.{Loads}
-use Rattle.street.specs.declared.counted.Groups.{Groups}
+use Rattle.street.specs.declared.groups.Groups.{Groups}
 use Rattle.street.specs.Standing.{answer_for, heavily}
 use Rattle.street.specs.Fed.{fed_seen, FedStep}
 use Rattle.street.specs.Counted.{first_of, rest, capped_group, counted_answer, counted_seen}
@@ -17,7 +17,7 @@ pub record BringsLoads (m : Meaning) (row : List ℕ) (before : Loads) (g : Grou
 
 -- the groups that are kept and not used up
 abbrev pub to_come : Groups → List Group
-to_come f = f.to_come.items
+to_come f = drop f.used (take f.kept f.table)
 
 -- the first of those groups comes, and is used up
 pub record BringsFirst (m : Meaning) (row : List ℕ) (before : Groups) (g : Group) (after : Groups) : Type 0 where

@@ -14,6 +14,7 @@ pub enum Showing {
     Dark,
 }
 
+// That a street keeps the bounds of its model stands in each answer: a law would be one proof more for whoever writes a street.
 pub trait Street: Model {
     ghost seen: { Self → Seen };
 
@@ -37,9 +38,6 @@ pub trait Street: Model {
     fn arrival(&self, place: usize) -> u32
         ensures is { result ≡ told (seen self.now).arrivals place }
         ensures within { Bounded (Self.Model.meaning self.now) (seen self.now) };
-
-    // A street keeps the bounds of its model, asked or not. Each answer promises it too, so that whoever asks need not know of laws.
-    ghost bounded: { (s : Self) → Bounded (Self.Model.meaning s) (seen s) };
 }
 
 pub mod careful;
@@ -49,4 +47,4 @@ pub mod feed;
 pub mod groups;
 pub mod heavy;
 pub mod queues;
-mod standing;
+pub mod standing;

@@ -28,6 +28,8 @@ impl<S: Street> Area<S> {
     pub fn new(street: S, limits: Vec<Limit>, number: u32) -> Self
         ensures { Made S.Model.meaning S.Street.seen street limits.items number result }
     {
+        // whatever a street is asked, its answer promises that it keeps the bounds of its model
+        let _ = street.queue(1);
         let position = Position::off_line(&street);
         let book = Book {
             shelf: [None; 8],

@@ -12,7 +12,7 @@ returns g c =
       street = refl;
       limits = refl;
       fresh = refl;
-      life = fresh c.args.number (g.S.Street.seen street) (g.met.S.Street.bounded street);
+      life = fresh c.args.number (g.S.Street.seen street) c.queue.ensures.within;
       promises = promised (g.S.Model.meaning street) (g.met.S.Model.lawful street) (vec_items c.args.limits);
       not_empty = covered_life;
     })
