@@ -21,3 +21,6 @@ pub fn read_input<R: Read>(heap: Global, reader: &mut R) -> io::Result<Vec<u8>>
     io::copy(reader, &mut io::sink())?;
     Ok(bytes)
 }
+
+#[cfg(test)]
+mod tests;
