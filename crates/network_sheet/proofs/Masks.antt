@@ -5,7 +5,7 @@ use Rattle.std.specs.Option.{unwrap_or}
 use native.Mathlib.Nat.{div-eq_of_lt}
 use Rattle.std.proofs.lemmas.Bool.{cases_lt, lt-ltb, le-ltb, eq-eqb, ne_eqb}
 
-shifted_out : (m p : ℕ) → eqb (m / 2 ^ p) 0 ≡ ltb m (2 ^ p)
+pub shifted_out : (m p : ℕ) → eqb (m / 2 ^ p) 0 ≡ ltb m (2 ^ p)
 shifted_out m p =
     ⊎_elim
     (λ h. eq-eqb (m / 2 ^ p) 0 (div-eq_of_lt h) ∙ sym (lt-ltb m (2 ^ p) h))
