@@ -16,7 +16,7 @@ DECL=re.compile(r'^(\s*)((?:abbrev |unfoldable )?(?:pub )?(?:record |data )?)([^
 def antt(root,sub):
     d={}
     for c,f,s in files(root,sub,'.antt'):
-        if f.endswith('Lib.antt') or f.endswith('Answers.antt') or f.endswith('Invariants.antt') or f.endswith('Proof.antt'): continue
+        if f.endswith('Lib.antt') or f.count('/')>1 and f.endswith(('Answers.antt','Invariants.antt','Proof.antt')): continue # a function's own; above such a folder these names hold lemmas
         s=strip_comments(s,'--')
         # split into blocks separated by blank lines
         for b in re.split(r'\n\s*\n',s):
