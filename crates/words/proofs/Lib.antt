@@ -5,3 +5,4 @@ pub mod Spelled
 pub mod Due
 pub mod Filling
 pub mod Folding
+pub mod Scanning

@@ -1,12 +1,15 @@
 use Rattle.std.proofs.Common.{rules}
-use Rattle.words.proofs.Steps.{never_stops, stops_bad, stops_well}
+use Rattle.words.proofs.Scanning.{ended_more, ended_bad, ended_stops, ended_all}
 use Rattle.words.proofs.word.word_end.Goals as goal
 
-pub returns-in-Some : goal.returns-in-Some
-returns-in-Some c = search (rules, stops_bad)
+pub returns-then-not-prints : goal.returns-then-not-prints
+returns-then-not-prints c = search (rules, ended_bad)
 
-pub returns-in-Some-2 : goal.returns-in-Some-2
-returns-in-Some-2 c = search (rules, stops_well)
+pub loop-end-preserved : goal.loop-end-preserved
+loop-end-preserved c = search (rules, ended_more)
 
-pub returns-in-None : goal.returns-in-None
-returns-in-None c = search (rules, never_stops)
+pub returns-else-not-separates : goal.returns-else-not-separates
+returns-else-not-separates c = search (rules, ended_stops)
+
+pub returns-after-loop-end : goal.returns-after-loop-end
+returns-after-loop-end c = search (rules, ended_all)
