@@ -1,5 +1,5 @@
 pub mod Stepping
 pub mod Sharing
 pub mod Inflows
-pub mod Wishes
+pub mod Masks
 pub mod Held

@@ -5,4 +5,3 @@ pub mod Spelled
 pub mod Due
 pub mod Filling
 pub mod Folding
-pub mod Scanning

@@ -1,95 +1,31 @@
 -- One byte further along a sheet.
-use Rattle.std.proofs.Common.{◌≡◌, ℕ, suc, ◌+◌, ◌-◌, ◌<◌, ◌≤◌, Bool, true, false, not, cond, ltb, Option, Some, None, List, [], ◌∷◌, length, get_or, take, drop, Ok, sym, ap, ◌∙◌, ⊎_elim, arith, length-drop, length-take}
-use Rattle.std.specs.List.{position_or_len, position}
-use Rattle.std.specs.Option.{unwrap_or}
-use Rattle.std.proofs.lemmas.List.Sums.{prefix_len-le-length}
-use Rattle.std.proofs.lemmas.Bool.{cond-true, cond-false, cases_Bool, cases_lt, or_left, or_right, or_from, ltb-false, le-ltb, lt-ltb, ne_eqb}
-use Rattle.refusal.specs.Questions.{Told, no, then}
-use Rattle.words.specs.Words.{separator, printable, stop, skipped, ended, numeral, number, name, part, cut, word_from, word_at}
+use Rattle.std.proofs.Common.{◌≡◌, ℕ, ◌+◌, ◌-◌, ◌<◌, ◌≤◌, true, false, cond, List, [], ◌∷◌, length, get_or, take, drop, Ok, sym, ap, ◌∙◌, ⊎_elim, arith, length-drop, length-take}
+use Rattle.std.proofs.lemmas.List.{at_drop_more, at_drop_all}
+use Rattle.std.proofs.lemmas.Bool.{cond-true, cond-false, cases_Bool, ne_eqb}
+use Rattle.refusal.specs.Questions.{no, then}
+use Rattle.words.specs.Words.{separator, printable, skipped, ended, numeral, number, name, part, cut, word_from, word_at}
 
--- what `position` and `unwrap_or` make of the first place that passes a test
-pub first_or_all : (test : ℕ → Bool) (l : List ℕ) (r : Option ℕ) → r ≡ position test l → unwrap_or r (length l) ≡ position_or_len test l
-first_or_all test l r e =
-    let n : ℕ = position_or_len test l in
-    let few : n ≤ length l = prefix_len-le-length (λ b. not (test b)) l in
-    ap (λ o. unwrap_or o (length l)) e
-    ∙ ⊎_elim
-    (λ on. ap (λ o. unwrap_or o (length l)) (cond-true (ltb n (length l)) (Some n) None on))
-    (λ off. let past = ltb-false n (length l) off in ap (λ o. unwrap_or o (length l)) (cond-false (ltb n (length l)) (Some n) None off) ∙ omega arith)
-    (cases_Bool (ltb n (length l)))
+module _ (bs : List ℕ) (i : ℕ) where
+  pub skipped_more : i < length bs → separator (get_or bs i 0) ≡ true → skipped (drop i bs) i ≡ skipped (drop (i + 1) bs) (i + 1)
+  skipped_more h s = at_drop_more (λ l. skipped l i) bs i 0 h ∙ cond-true _ _ _ s
 
--- what is skipped is what stands before the first byte that is no separator
-pub skipped_count : (l : List ℕ) (p : ℕ) → p + position_or_len (λ b. not (separator b)) l ≡ skipped l p
-skipped_count [] p = omega arith
-skipped_count (b ∷ l) p =
-    let n : ℕ = position_or_len (λ b. not (separator b)) l in
-    ⊎_elim
-    (λ s. let one : position_or_len (λ b. not (separator b)) (b ∷ l) ≡ 1 + n = cond-true _ _ _ (ap (λ t. not (not t)) s) in omega (arith, skipped_count l (p + 1), cond-true (separator b) (skipped l (p + 1)) p s))
-    (λ s. let none : position_or_len (λ b. not (separator b)) (b ∷ l) ≡ 0 = cond-false _ _ _ (ap (λ t. not (not t)) s) in omega (arith, cond-false (separator b) (skipped l (p + 1)) p s))
-    (cases_Bool (separator b))
+  pub skipped_stops : i < length bs → separator (get_or bs i 0) ≡ false → skipped (drop i bs) i ≡ i
+  skipped_stops h s = at_drop_more (λ l. skipped l i) bs i 0 h ∙ cond-false _ _ _ s
 
--- how a word that begins at p ends, where n bytes stand before the first such byte
-abbrev pub ends_by : List ℕ → ℕ → ℕ → Told ℕ
-ends_by l p n = cond (ltb n (length l)) (cond (separator (get_or l n 0)) (Ok (p + n)) (no 2 (p + n))) (Ok (p + length l))
+  pub skipped_all : length bs ≤ i → skipped (drop i bs) i ≡ i
+  skipped_all h = at_drop_all (λ l. skipped l i) bs i h
 
-pub ends_here : (l : List ℕ) (p n : ℕ) → n < length l → ends_by l p n ≡ cond (separator (get_or l n 0)) (Ok (p + n)) (no 2 (p + n))
-ends_here l p n h = cond-true _ _ _ (lt-ltb n (length l) h)
+  pub ended_more : i < length bs → separator (get_or bs i 0) ≡ false → printable (get_or bs i 0) ≡ true → ended (drop i bs) i ≡ ended (drop (i + 1) bs) (i + 1)
+  ended_more h s p = at_drop_more (λ l. ended l i) bs i 0 h ∙ cond-false _ _ _ s ∙ cond-true _ _ _ p
 
-ends_past : (l : List ℕ) (p n : ℕ) → length l ≤ n → ends_by l p n ≡ Ok (p + length l)
-ends_past l p n h = cond-false _ _ _ (le-ltb n (length l) h)
+  pub ended_bad : i < length bs → separator (get_or bs i 0) ≡ false → printable (get_or bs i 0) ≡ false → ended (drop i bs) i ≡ no 2 i
+  ended_bad h s p = at_drop_more (λ l. ended l i) bs i 0 h ∙ cond-false _ _ _ s ∙ cond-false _ _ _ p
 
-ends_later : (b : ℕ) (l : List ℕ) (p n : ℕ) → ends_by l (p + 1) n ≡ ends_by (b ∷ l) p (1 + n)
-ends_later b l p n =
-    let same : p + 1 + n ≡ p + (1 + n) = omega arith in
-    let at : get_or l n 0 ≡ get_or (b ∷ l) (1 + n) 0 = let e : suc n ≡ 1 + n = omega arith in ap (λ k. get_or (b ∷ l) k 0) e in
-    ⊎_elim
-    (λ on. ends_here l (p + 1) n on ∙ (λ i. cond (separator (at i)) (Ok (same i)) (no 2 (same i))) ∙ sym (ends_here (b ∷ l) p (1 + n) (omega arith)))
-    (λ off. ends_past l (p + 1) n off ∙ ap Ok (omega arith) ∙ sym (ends_past (b ∷ l) p (1 + n) (omega arith)))
-    (cases_lt n (length l))
+  pub ended_stops : i < length bs → separator (get_or bs i 0) ≡ true → ended (drop i bs) i ≡ Ok i
+  ended_stops h s = at_drop_more (λ l. ended l i) bs i 0 h ∙ cond-true _ _ _ s
 
-pub ended_count : (l : List ℕ) (p : ℕ) → ended l p ≡ ends_by l p (position_or_len stop l)
-ended_count [] p = ap Ok (omega arith)
-ended_count (b ∷ l) p =
-    let n : ℕ = position_or_len stop l in
-    let here : p + 0 ≡ p = omega arith in
-    let some : 0 < length (b ∷ l) = omega arith in
-    ⊎_elim
-    (λ s.
-    let none : position_or_len stop (b ∷ l) ≡ 0 = cond-false _ _ _ (ap not (or_left _ _ s)) in
-    cond-true _ _ _ s ∙ ap Ok (sym here) ∙ sym (ends_here (b ∷ l) p 0 some ∙ cond-true _ _ _ s) ∙ ap (ends_by (b ∷ l) p) (sym none))
-    (λ s. ⊎_elim
-    (λ t.
-    let one : position_or_len stop (b ∷ l) ≡ 1 + n = cond-true _ _ _ (ap not (or_from _ _ s (ap not t))) in
-    cond-false _ _ _ s ∙ cond-true _ _ _ t ∙ ended_count l (p + 1) ∙ ends_later b l p n ∙ ap (ends_by (b ∷ l) p) (sym one))
-    (λ t.
-    let none : position_or_len stop (b ∷ l) ≡ 0 = cond-false _ _ _ (ap not (or_right _ _ (ap not t))) in
-    cond-false _ _ _ s ∙ cond-false _ _ _ t ∙ ap (no 2) (sym here) ∙ sym (ends_here (b ∷ l) p 0 some ∙ cond-false _ _ _ s) ∙ ap (ends_by (b ∷ l) p) (sym none))
-    (cases_Bool (printable b)))
-    (cases_Bool (separator b))
-
--- the first byte that stops a word from place p on
-module _ (bs : List ℕ) (p : ℕ) (l : List ℕ) (is : l ≡ drop p bs) (r : Option ℕ) (first : r ≡ position stop l) where
-  pub never_stops : r ≡ None → Ok (p + length l) ≡ ended (drop p bs) p
-  never_stops e =
-      ⊎_elim
-      (λ on. absurd (let z : ◌≡◌ {A = ℕ} 0 1 = cc (cond-true (ltb (position_or_len stop l) (length l)) (Some (position_or_len stop l)) None on) in omega arith))
-      (λ off. sym (ended_count l p ∙ cond-false _ _ _ off) ∙ ap (λ m. ended m p) is)
-      (cases_Bool (ltb (position_or_len stop l) (length l)))
-
-  stops_at : (n : ℕ) → r ≡ Some n → cond (separator (get_or l n 0)) (Ok (p + n)) (no 2 (p + n)) ≡ ended (drop p bs) p
-  stops_at n e =
-      ⊎_elim
-      (λ on.
-      let at : position_or_len stop l ≡ n = cc (cond-true (ltb (position_or_len stop l) (length l)) (Some (position_or_len stop l)) None on) in
-      sym (ended_count l p ∙ cond-true _ _ _ on ∙ ap (λ k. cond (separator (get_or l k 0)) (Ok (p + k)) (no 2 (p + k))) at) ∙ ap (λ m. ended m p) is)
-      (λ off. absurd (let z : ◌≡◌ {A = ℕ} 0 1 = cc (cond-false (ltb (position_or_len stop l) (length l)) (Some (position_or_len stop l)) None off) in omega arith))
-      (cases_Bool (ltb (position_or_len stop l) (length l)))
-
-  pub stops_bad : (n : ℕ) → r ≡ Some n → separator (get_or l n 0) ≡ false → no 2 (p + n) ≡ ended (drop p bs) p
-  stops_bad n e s = sym (cond-false _ _ _ s) ∙ stops_at n e
-
-  pub stops_well : (n : ℕ) → r ≡ Some n → separator (get_or l n 0) ≡ true → Ok (p + n) ≡ ended (drop p bs) p
-  stops_well n e s = sym (cond-true _ _ _ s) ∙ stops_at n e
+  pub ended_all : length bs ≤ i → ended (drop i bs) i ≡ Ok i
+  ended_all h = at_drop_all (λ l. ended l i) bs i h
 
 ended_range : (l : List ℕ) (p e : ℕ) → ended l p ≡ Ok e → (p ≤ e) × (e ≤ p + length l)
 ended_range [] p e h = let q : p ≡ e = cc in omega arith

@@ -17,10 +17,6 @@ separator b = b == 32 || b == 10
 abbrev pub printable : ℕ → Bool
 printable b = nat_le 32 b && nat_le b 126
 
--- a byte at which a word ends, or that may not stand in one
-abbrev pub stop : ℕ → Bool
-stop b = separator b || not (printable b)
-
 -- the place of the first byte that is no separator, where the bytes begin at place p
 abbrev pub skipped : List ℕ → ℕ → ℕ
 skipped [] p = p

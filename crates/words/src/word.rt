@@ -1,8 +1,8 @@
 // The words of a sheet: runs of bytes between separators.
 // A reader takes the bytes and a place, and answers where it ended: a cursor that it moved would have to be put back wherever it refuses.
-ghost use Rattle.std.specs.Prelude.{◌≡◌, drop, position};
+ghost use Rattle.std.specs.Prelude.{◌≡◌, drop};
 ghost use Rattle.words.specs.Faults.{told};
-ghost use Rattle.words.specs.Words.{short_sheet, separator, printable, stop, skipped, ended, digit, digits, numeral, shown, word_at, Sound};
+ghost use Rattle.words.specs.Words.{short_sheet, separator, printable, skipped, ended, digit, digits, numeral, shown, word_at, Sound};
 
 use crate::fault::SheetFault;
 
@@ -44,7 +44,8 @@ fn prints(b: u8) -> bool
     matches!(b, b' '..=b'~')
 }
 
-// The first byte from `at` on that is no separator. A loop: as a search in a slice, where a word ends is known later, and a short word takes half as much time again.
+// The first byte from `at` on that is no separator.
+// A loop: by a search in a slice, where a word ends is known later, and a short word takes half as much time again.
 fn first_byte(bytes: &[u8], at: usize) -> usize
     ensures { result ≡ skipped (drop at bytes.now) at }
 {
@@ -75,11 +76,16 @@ fn all_digits(text: &[u8]) -> bool
     text.iter().all(u8::is_ascii_digit)
 }
 
-// 1 to 9 digits with no needless zero in front.
+// 1 to 9 digits with no needless zero in front. By the length, since most numbers are short: of one digit, no loop is needed.
 fn is_numeral(text: &[u8]) -> bool
     ensures { result ≡ numeral text.now }
 {
-    all_digits(text) && !text.is_empty() && text.len() <= 9 && (text.len() <= 1 || text[0] != b'0')
+    match text.len() {
+        0 => false,
+        1 => text[0].is_ascii_digit(),
+        2..=9 => matches!(text[0], b'1'..=b'9') && all_digits(&text[1..]),
+        _ => false,
+    }
 }
 
 // The next word from `at` on. The hint, since words are short and read by the thousand.

@@ -1,5 +1,5 @@
 use Rattle.std.proofs.Common.{rules, arith}
-use Rattle.network.proofs.Wishes.{bit_shown}
+use Rattle.network.proofs.Masks.{bit_shown}
 use Rattle.network.proofs.links.has_bit.Goals as goal
 
 pub returns : goal.returns

@@ -1,5 +1,5 @@
 use Rattle.std.proofs.Common.{rules}
-use Rattle.words.proofs.Scanning.{skipped_more, skipped_stops, skipped_all}
+use Rattle.words.proofs.Steps.{skipped_more, skipped_stops, skipped_all}
 use Rattle.words.proofs.word.first_byte.Goals as goal
 
 pub loop-place-preserved : goal.loop-place-preserved

@@ -1,5 +1,5 @@
 use Rattle.std.proofs.Common.{rules}
-use Rattle.words.proofs.Scanning.{ended_more, ended_bad, ended_stops, ended_all}
+use Rattle.words.proofs.Steps.{ended_more, ended_bad, ended_stops, ended_all}
 use Rattle.words.proofs.word.word_end.Goals as goal
 
 pub returns-then-not-prints : goal.returns-then-not-prints
